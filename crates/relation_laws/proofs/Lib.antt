@@ -1,0 +1,13 @@
+pub mod Lists
+pub mod Counts
+pub mod Sums
+pub mod Products
+pub mod Made
+pub mod Ones
+pub mod WeightLaws
+pub mod NoiseLaws
+pub mod Thirds
+pub mod Integers
+pub mod Digits
+pub mod Gathering
+pub mod ShortLaws

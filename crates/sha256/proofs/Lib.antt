@@ -1,0 +1,7 @@
+mod BigEndian
+mod Bitwise
+mod Chains
+pub mod Digests
+mod Paddings
+mod Rounds
+mod Windows

@@ -1,0 +1,4 @@
+pub mod Filling
+pub mod Keys
+pub mod Numbers
+pub mod Places

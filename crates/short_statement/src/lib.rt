@@ -1,0 +1,6 @@
+// Short statements.
+pub mod short;
+
+mod entries;
+mod layers;
+mod sums;

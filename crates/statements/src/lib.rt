@@ -1,0 +1,9 @@
+// Weight and noise statements, and what every kind of statement is made of.
+pub mod checks;
+pub mod counts;
+pub mod given;
+pub mod noise;
+pub mod products;
+pub mod weight;
+
+mod bits;

@@ -1,0 +1,6 @@
+// Leaf work over lent slices, and the guard that zeroes a lent area.
+pub mod encoding;
+pub mod modular;
+pub mod parts;
+pub mod permuting;
+pub mod zeroing;
