@@ -25,10 +25,10 @@ row-layer N j zs =
     let n : j * N + N - j * N ≡ N = omega arith in
     ap (λ n. take n (drop (j * N) zs)) n
 
-layer-zero : (N : ℕ) (zs : List ℕ) → layer N 0 zs ≡ take N zs
+pub layer-zero : (N : ℕ) (zs : List ℕ) → layer N 0 zs ≡ take N zs
 layer-zero N zs = ap (λ n. take N (drop n zs)) (zero-mul N)
 
-layer-suc : (N j : ℕ) (zs : List ℕ) → layer N (suc j) zs ≡ layer N j (drop N zs)
+pub layer-suc : (N j : ℕ) (zs : List ℕ) → layer N (suc j) zs ≡ layer N j (drop N zs)
 layer-suc N j zs =
     let e : suc j * N ≡ N + j * N = omega arith in
     ap (take N) (ap (λ n. drop n zs) e ∙ sym (drop-drop (j * N) N zs))

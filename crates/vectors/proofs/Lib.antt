@@ -6,3 +6,5 @@ pub mod Layers
 pub mod Actions
 pub mod Words
 pub mod Over
+pub mod Once
+pub mod Failing

@@ -3,4 +3,5 @@ pub mod encoding;
 pub mod modular;
 pub mod parts;
 pub mod permuting;
+pub mod testing;
 pub mod zeroing;

@@ -1,0 +1,14 @@
+use mathlib.Core.Path.{_∙_}
+use native.Mathlib.Omega.{arith}
+use lib.ListN.{length}
+use Rattle.std.proofs.shelf.Counted.{fill-by-all}
+use Rattle.std.proofs.shelf.Edits.{fill-by-more}
+use Rattle.std.proofs.shelf.Lists.{map-id}
+use Rattle.masks.proofs.permutations.count_up.Needs as need
+
+pub returns : need.returns
+returns c =
+    fill-by-all (λ i. i) (c .loop-i .positions) (length (c .args .positions .now)) 0 (omega arith) (λ k h. c .loop-i .inv k (omega arith)) ∙ map-id _
+
+pub loop-i-again : need.loop-i-again
+loop-i-again c = fill-by-more (λ i. i) (c .loop-i .positions) (c .loop-i .i) 0 (omega arith) (c .loop-i .inv)

@@ -1,0 +1,4 @@
+pub mod Mask
+pub mod Draw
+pub mod Sources
+pub mod Promises
