@@ -8,7 +8,7 @@ use Rattle.std.specs.declared.option.Option.{Option}
 use Rattle.std.specs.declared.option.Option.the-variants.{Some, None}
 use Rattle.vectors.specs.Over.{zeros}
 use Rattle.relation.specs.Meaning.{RelationMeaning}
-use Rattle.masks.specs.Mask.{Mask, WellFormed, sized}
+use Rattle.masks.specs.Mask.{Mask, sized}
 use Rattle.masks.specs.Draw.{Drawn, draw-mask}
 
 -- 71 where the bytes run out

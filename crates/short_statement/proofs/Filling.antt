@@ -1,15 +1,13 @@
 -- Layers that are filled up behind their digits, and layers one behind another.
-use mathlib.Core.Path.{_≡_, refl, sym, _∙_, ap, ap₂}
+use mathlib.Core.Path.{_≡_, sym, _∙_, ap, ap₂}
 use mathlib.Core.List.{List, [], _∷_, _++_, map}
 use Prim.Native.Nat.{ℕ, zero, suc, _+_, _-_, _*_, _<_, _≤_}
 use native.Mathlib.Omega.{arith}
-use native.Mathlib.Nat.{add-zero, add-suc, suc-add}
-use native.Mathlib.Numerals.{add-one}
+use native.Mathlib.Nat.{add-zero}
 use borrow.Rule.Slice.PartMut.{putMid}
 use lib.IntN.{ℤ}
-use lib.ListN.{length, take, drop, replicate}
-use Rattle.std.specs.shelf.Lists.{All}
-use Rattle.std.proofs.shelf.Lists.{append-assoc, append-nil, drop-all, length-append, length-map, length-replicate, length-take-le, take-all}
+use lib.ListN.{length, take, replicate}
+use Rattle.std.proofs.shelf.Lists.{append-assoc, append-nil, drop-all, length-append, length-replicate, length-take-le}
 use Rattle.std.proofs.shelf.Parts.{take-putMid}
 use Rattle.vectors.specs.Counts.{count}
 use Rattle.vectors.specs.Over.{over}

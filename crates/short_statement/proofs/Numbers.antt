@@ -1,12 +1,12 @@
 -- Whole numbers of a key: their sizes, their residues, and the binary digits of a bound.
-use mathlib.Core.Path.{_≡_, refl, sym, _∙_, ap, ap₂}
+use mathlib.Core.Path.{_≡_, refl, sym, _∙_, ap}
 use mathlib.Core.List.{List, map}
 use mathlib.Core.Bool.{true, false, _&&_}
 use mathlib.Core.Logic.{⊎-elim}
-use Prim.Native.Nat.{ℕ, zero, suc, _+_, _-_, _*_, _/_, _%_, _^_, _<_, _≤_}
+use Prim.Native.Nat.{ℕ, zero, suc, _+_, _-_, _/_, _%_, _^_, _<_, _≤_}
 use native.Mathlib.Omega.{arith}
 use native.Mathlib.Nat.{two-pow-succ, mod-lt, mod-eq-of-lt, mod-self, mod-add-mod, add-zero}
-use lib.Dec.{eqb, leb}
+use lib.Dec.{leb}
 use lib.IntN.{ℤ, pos, negsuc, natAbs}
 use lib.ListN.{length, getD, drop}
 use Rattle.std.specs.Numbers.{remEuclid}
@@ -14,7 +14,7 @@ use Rattle.std.proofs.shelf.Lists.{at-drop-more, at-drop-all, ext-getD, getD-ma
 use Rattle.std.proofs.shelf.Tests.{le-leb, lt-leb, ne-eqb, cases-lt}
 use Rattle.relation_laws.specs.Short.{size, sizes-within, residue, digits-among}
 
-pub size-is : (z : ℤ) → size z ≡ natAbs z
+size-is : (z : ℤ) → size z ≡ natAbs z
 size-is (pos n) = refl
 size-is (negsuc n) = refl
 
@@ -85,8 +85,9 @@ digits-step count rest h l = go (15 - count) refl l
         → (count + 1 ≤ 15) × (count + digits-among (15 - count) rest ≡ count + 1 + digits-among (15 - (count + 1)) (rest / 2)) × (rest / 2 < 2 ^ (15 - (count + 1)))
     go zero e l = absurd (omega arith)
     go (suc places) e l =
-        let d : 15 - (count + 1) ≡ places = omega arith in
-        (omega arith,
-        ap (λ p. count + digits-among p rest) e ∙ ap (λ n. count + n) (digits-among-more places rest h) ∙ (let s : (n : ℕ) → count + suc n ≡ count + 1 + n = λ n. omega arith in s (digits-among places (rest / 2)))
-        ∙ ap (λ p. count + 1 + digits-among p (rest / 2)) (sym d),
-        rw d (omega (arith, two-pow-succ places)))
+        let d : 15 - (count + 1) ≡ places = omega arith in (
+          omega arith,
+          ap (λ p. count + digits-among p rest) e ∙ ap (λ n. count + n) (digits-among-more places rest h) ∙ (let s : (n : ℕ) → count + suc n ≡ count + 1 + n = λ n. omega arith in s (digits-among places (rest / 2)))
+              ∙ ap (λ p. count + 1 + digits-among p (rest / 2)) (sym d),
+          rw d (omega (arith, two-pow-succ places)),
+        )

@@ -7,13 +7,12 @@ use native.Mathlib.Omega.{arith}
 use native.Mathlib.Nat.{zero-mod, add-mod-mod, mul-le-mul-right, zero-mul, two-pow-succ}
 use lib.Dec.{eqb}
 use lib.IntN.{ℤ, pos, negsuc, _+ℤ_}
-use lib.ListN.{length, getD, take, drop, replicate}
+use lib.ListN.{length, getD, take, drop}
 use mir.Syntax.{w32}
 use mir.Val.{SFits}
 use Rattle.std.proofs.shelf.Bits.{pow-below}
 use Rattle.std.proofs.shelf.Lists.{drop-drop, getD-drop, getD-map, getD-take, getD-replicate, length-drop, length-map, length-replicate, length-take-le, ext-getD}
 use Rattle.std.proofs.shelf.Tests.{cases-lt, cond-both}
-use Rattle.vectors.specs.Residues.{plus}
 use Rattle.vectors.proofs.Sums.{getD-plus}
 use Rattle.relation_laws.specs.Short.{size, combined, signed, with-doubled, gathered}
 use Rattle.relation_laws.proofs.Gathering.{length-combined}
@@ -53,36 +52,25 @@ module _ (K N j i : ℕ) (h : 0 < j) (l : j ≤ K) where
         ap (λ n. signed-place-sum q N i n (drop ((j - 1) * N) zs)) left
         ∙ ap₂ (λ x r. signed q x +ℤ (signed-place-sum q N i (K - j) r +ℤ signed-place-sum q N i (K - j) r)) (getD-drop ((j - 1) * N) zs i 0) rest
 
--- the sum over no layers, and over all
-pub place-sum-none : (K N i : ℕ) (zs : List ℕ) → 0 ≡ place-sum N i (K - K) (drop (K * N) zs)
-place-sum-none K N i zs =
-    let e : K - K ≡ 0 = omega arith in
-    ap (λ n. place-sum N i n (drop (K * N) zs)) (sym e)
+-- what a function of the layers from layer j on is at the last j and at the first
+module _ {X : Type 0} (F : ℕ → List ℕ → X) (K N : ℕ) (zs : List ℕ) where
+  pub from-last : F (K - K) (drop (K * N) zs) ≡ F 0 (drop (K * N) zs)
+  from-last =
+      let e : K - K ≡ 0 = omega arith in
+      ap (λ n. F n (drop (K * N) zs)) e
 
-pub place-sum-all : (K N i j : ℕ) (zs : List ℕ) → j ≤ 0 → place-sum N i (K - j) (drop (j * N) zs) ≡ place-sum N i K zs
-place-sum-all K N i j zs h =
-    let e : j ≡ 0 = omega arith in
-    let k : K - j ≡ K = omega arith in
-    let d : j * N ≡ 0 = ap (λ n. n * N) e ∙ zero-mul N in
-    ap₂ (λ n r. place-sum N i n r) k (ap (λ n. drop n zs) d)
-
-pub signed-place-sum-none : (q K N i : ℕ) (zs : List ℕ) → pos 0 ≡ signed-place-sum q N i (K - K) (drop (K * N) zs)
-signed-place-sum-none q K N i zs =
-    let e : K - K ≡ 0 = omega arith in
-    ap (λ n. signed-place-sum q N i n (drop (K * N) zs)) (sym e)
-
-pub signed-place-sum-all : (q K N i j : ℕ) (zs : List ℕ) → j ≤ 0 → signed-place-sum q N i (K - j) (drop (j * N) zs) ≡ signed-place-sum q N i K zs
-signed-place-sum-all q K N i j zs h =
-    let e : j ≡ 0 = omega arith in
-    let k : K - j ≡ K = omega arith in
-    let d : j * N ≡ 0 = ap (λ n. n * N) e ∙ zero-mul N in
-    ap₂ (λ n r. signed-place-sum q N i n r) k (ap (λ n. drop n zs) d)
+  pub from-first : (j : ℕ) → j ≤ 0 → F (K - j) (drop (j * N) zs) ≡ F K zs
+  from-first j h =
+      let e : j ≡ 0 = omega arith in
+      let k : K - j ≡ K = omega arith in
+      let d : j * N ≡ 0 = ap (λ n. n * N) e ∙ zero-mul N in
+      ap₂ F k (ap (λ n. drop n zs) d)
 
 -- at most 15 layers
 pub power-small : (n : ℕ) → n ≤ 15 → 2 ^ n ≤ 32768
 power-small n h = ⊎-elim (λ (l : n < 15). omega (arith, pow-below n 15 l)) (λ (l : 15 ≤ n). let e : n ≡ 15 = omega arith in omega (arith, ap (λ k. 2 ^ k) e)) (cases-lt n 15)
 
-pub getD-combined : (q m K : ℕ) (zs : List ℕ) (i : ℕ) → i < m → length zs ≡ K * (3 * m) → getD (combined q m K zs) i 0 ≡ place-sum (3 * m) i K zs % q
+getD-combined : (q m K : ℕ) (zs : List ℕ) (i : ℕ) → i < m → length zs ≡ K * (3 * m) → getD (combined q m K zs) i 0 ≡ place-sum (3 * m) i K zs % q
 getD-combined q m zero zs i h e = getD-replicate m i 0 0 h ∙ sym (zero-mod q)
 getD-combined q m (suc K) zs i h e =
     let r : List ℕ = combined q m K (drop (3 * m) zs) in

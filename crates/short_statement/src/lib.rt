@@ -1,6 +1,5 @@
 // Short statements.
-pub mod short;
-
 mod entries;
 mod layers;
+pub mod short;
 mod sums;

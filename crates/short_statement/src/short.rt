@@ -79,7 +79,11 @@ impl<'a> Short<'a> {
         let layer_len = 3 * columns;
         for j in 0..binary_digits(self.given.bound) {
             let start = j * layer_len;
-            if !has_thirds(&layers[start..start + layer_len], columns, self.given.modulus as u16) {
+            if !has_thirds(
+                &layers[start..start + layer_len],
+                columns,
+                self.given.modulus as u16,
+            ) {
                 return false;
             }
         }
@@ -148,7 +152,10 @@ pub impl<'a> Relation for Short<'a> as ShortRelation {
 
     fn shape(&self, j: usize, layer: &[u16]) -> Result<bool, Refusal> {
         let given = self.given;
-        if j >= binary_digits(given.bound) || layer.len() != 3 * given.columns || !all_below(layer, given.modulus) {
+        if j >= binary_digits(given.bound)
+            || layer.len() != 3 * given.columns
+            || !all_below(layer, given.modulus)
+        {
             return Err(Refusal::RelationArgument);
         }
         Ok(has_thirds(layer, given.columns, given.modulus as u16))
@@ -158,7 +165,15 @@ pub impl<'a> Relation for Short<'a> as ShortRelation {
         let given = self.given;
         let q = given.modulus as u16;
         let layer_count = binary_digits(given.bound);
-        if out.len() != given.rows || !whole(layers, layer_count * (3 * given.columns), free, 0, given.modulus) {
+        if out.len() != given.rows
+            || !whole(
+                layers,
+                layer_count * (3 * given.columns),
+                free,
+                0,
+                given.modulus,
+            )
+        {
             return Err(Refusal::RelationArgument);
         }
         let mut buffer = [0; 256];
@@ -199,7 +214,15 @@ pub impl<'a> Relation for Short<'a> as ShortRelation {
     fn gather(&self, layers: &[u16], free: &[u16], key: &mut [i32]) -> Result<(), Refusal> {
         let given = self.given;
         let layer_count = binary_digits(given.bound);
-        if key.len() != given.columns || !whole(layers, layer_count * (3 * given.columns), free, 0, given.modulus) {
+        if key.len() != given.columns
+            || !whole(
+                layers,
+                layer_count * (3 * given.columns),
+                free,
+                0,
+                given.modulus,
+            )
+        {
             return Err(Refusal::RelationArgument);
         }
         if !self.all_shaped(layers) {

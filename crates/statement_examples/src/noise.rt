@@ -72,10 +72,34 @@ fn layers_have_an_image() -> Result<(), Fail> {
 
 #[test]
 fn statements_are_taken_or_refused() -> Result<(), Fail> {
-    check_eq(making(Given { bound: 4, ..EXAMPLE }), 0)?;
+    check_eq(
+        making(Given {
+            bound: 4,
+            ..EXAMPLE
+        }),
+        0,
+    )?;
     check_eq(making(Given { rows: 0, ..EXAMPLE }), 11)?;
-    check_eq(making(Given { modulus: 3, ..EXAMPLE }), 12)?;
-    check_eq(making(Given { bound: 5, ..EXAMPLE }), 13)?;
+    check_eq(
+        making(Given {
+            modulus: 3,
+            ..EXAMPLE
+        }),
+        12,
+    )?;
+    check_eq(
+        making(Given {
+            bound: 5,
+            ..EXAMPLE
+        }),
+        13,
+    )?;
     check_eq(making(Given { rows: 3, ..EXAMPLE }), 14)?;
-    check_eq(making(Given { target: &[1, 1, 1, 2], ..EXAMPLE }), 15)
+    check_eq(
+        making(Given {
+            target: &[1, 1, 1, 2],
+            ..EXAMPLE
+        }),
+        15,
+    )
 }

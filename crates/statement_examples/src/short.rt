@@ -61,7 +61,10 @@ fn layers_give_the_key_back() -> Result<(), Fail> {
     check_eq(gather(&LAYERS), (0, [5, -3]))?;
     check_eq(gather(&LAYERS[0..12]), (16, [9; 2]))?;
     check_eq(gather(&[1; 18]), (25, [9; 2]))?;
-    check_eq(gather(&[0, 10, 10, 0, 1, 1, 0, 10, 10, 0, 1, 1, 1, 0, 10, 10, 0, 1]), (25, [9; 2]))
+    check_eq(
+        gather(&[0, 10, 10, 0, 1, 1, 0, 10, 10, 0, 1, 1, 1, 0, 10, 10, 0, 1]),
+        (25, [9; 2]),
+    )
 }
 
 #[test]
@@ -73,11 +76,41 @@ fn layers_have_an_image() -> Result<(), Fail> {
 #[test]
 fn statements_are_taken_or_refused() -> Result<(), Fail> {
     check_eq(making(EXAMPLE), 0)?;
-    check_eq(making(Given { columns: 0, ..EXAMPLE }), 11)?;
-    check_eq(making(Given { modulus: 2, ..EXAMPLE }), 12)?;
-    check_eq(making(Given { bound: 32768, ..EXAMPLE }), 13)?;
-    check_eq(making(Given { columns: 3, ..EXAMPLE }), 14)?;
-    check_eq(making(Given { target: &[11], ..EXAMPLE }), 15)
+    check_eq(
+        making(Given {
+            columns: 0,
+            ..EXAMPLE
+        }),
+        11,
+    )?;
+    check_eq(
+        making(Given {
+            modulus: 2,
+            ..EXAMPLE
+        }),
+        12,
+    )?;
+    check_eq(
+        making(Given {
+            bound: 32768,
+            ..EXAMPLE
+        }),
+        13,
+    )?;
+    check_eq(
+        making(Given {
+            columns: 3,
+            ..EXAMPLE
+        }),
+        14,
+    )?;
+    check_eq(
+        making(Given {
+            target: &[11],
+            ..EXAMPLE
+        }),
+        15,
+    )
 }
 
 static MINUS_ONES: [u16; 256] = [65534; 256];
@@ -107,5 +140,14 @@ fn back(given: Given<'static>, key: &[i32]) -> (u8, [i32; 256]) {
 #[test]
 fn largest_keys_come_back() -> Result<(), Fail> {
     check_eq(back(LARGEST, &[32767; 256]), (0, [32767; 256]))?;
-    check_eq(back(Given { target: &[65407], ..LARGEST }, &[-32767; 256]), (0, [-32767; 256]))
+    check_eq(
+        back(
+            Given {
+                target: &[65407],
+                ..LARGEST
+            },
+            &[-32767; 256],
+        ),
+        (0, [-32767; 256]),
+    )
 }

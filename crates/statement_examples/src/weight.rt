@@ -72,22 +72,61 @@ fn layers_have_an_image() -> Result<(), Fail> {
 #[test]
 fn statements_are_taken_or_refused() -> Result<(), Fail> {
     check_eq(making(EXAMPLE), 0)?;
-    check_eq(making(Given { rows: 128, columns: 129, ..EXAMPLE }), 11)?;
-    check_eq(making(Given { modulus: 65536, ..EXAMPLE }), 12)?;
-    check_eq(making(Given { bound: 5, ..EXAMPLE }), 13)?;
-    check_eq(making(Given { target: &[], ..EXAMPLE }), 14)?;
-    check_eq(making(Given { modulus: 4, ..EXAMPLE }), 15)
+    check_eq(
+        making(Given {
+            rows: 128,
+            columns: 129,
+            ..EXAMPLE
+        }),
+        11,
+    )?;
+    check_eq(
+        making(Given {
+            modulus: 65536,
+            ..EXAMPLE
+        }),
+        12,
+    )?;
+    check_eq(
+        making(Given {
+            bound: 5,
+            ..EXAMPLE
+        }),
+        13,
+    )?;
+    check_eq(
+        making(Given {
+            target: &[],
+            ..EXAMPLE
+        }),
+        14,
+    )?;
+    check_eq(
+        making(Given {
+            modulus: 4,
+            ..EXAMPLE
+        }),
+        15,
+    )
 }
 
 #[test]
 fn refused_statements_leave_the_old_one() -> Result<(), Fail> {
     let mut weight = made(EXAMPLE);
-    check_eq(number(weight.set(Given { modulus: 4, ..EXAMPLE })), 15)?;
+    check_eq(
+        number(weight.set(Given {
+            modulus: 4,
+            ..EXAMPLE
+        })),
+        15,
+    )?;
     check_eq(weight.modulus(), 5)
 }
 
 static MINUS_ONES: [u16; 16384] = [65534; 16384];
+
 static MINUS_ONE: [u16; 64] = [65534; 64];
+
 static MINUS_256: [u16; 64] = [65279; 64];
 
 // 64 rows and 256 columns of −1, modulo the largest modulus.
@@ -103,13 +142,20 @@ const LARGEST: Given<'static> = Given {
 #[test]
 fn every_column_may_be_one() -> Result<(), Fail> {
     let mut layers = [0; 256];
-    check_eq(number(made(LARGEST).split(&[1; 256], &mut layers, &mut [])), 0)?;
+    check_eq(
+        number(made(LARGEST).split(&[1; 256], &mut layers, &mut [])),
+        0,
+    )?;
     check_eq(layers, [1; 256])
 }
 
 #[test]
 fn one_column_may_be_one() -> Result<(), Fail> {
-    let weight = made(Given { bound: 1, target: &MINUS_ONE, ..LARGEST });
+    let weight = made(Given {
+        bound: 1,
+        target: &MINUS_ONE,
+        ..LARGEST
+    });
     let mut key = [0; 256];
     key[255] = 1;
     let mut layers = [0; 256];

@@ -1,5 +1,5 @@
 -- What the calls of a relation refuse, from the tests that were made.
-use mathlib.Core.Path.{_≡_, refl, sym, _∙_, ap, ap₂}
+use mathlib.Core.Path.{_≡_, sym, _∙_, ap}
 use mathlib.Core.List.{List}
 use mathlib.Core.Bool.{Bool, true, false, cond, _&&_}
 use mathlib.Core.Logic.{⊎-elim}
@@ -73,9 +73,6 @@ module _ {E : Type 0} (relation : RelationMeaning E) where
 
     pub gather-fault-unshaped : shaped ≡ false → gather-fault relation zs t key-len ≡ Some 25
     gather-fault-unshaped h = gather-fault-fits ∙ cond-false (shaped && fitting) None (Some 25) (and-left shaped fitting h)
-
-    pub gather-fault-unfitting : fitting ≡ false → gather-fault relation zs t key-len ≡ Some 25
-    gather-fault-unfitting h = gather-fault-fits ∙ cond-false (shaped && fitting) None (Some 25) (and-right shaped fitting h)
 
     pub gather-fault-none : shaped ≡ true → fitting ≡ true → gather-fault relation zs t key-len ≡ None
     gather-fault-none h j = gather-fault-fits ∙ cond-true (shaped && fitting) None (Some 25) (and-from shaped fitting h j)

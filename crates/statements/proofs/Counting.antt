@@ -2,9 +2,7 @@
 use mathlib.Core.Path.{_≡_, sym, _∙_, ap}
 use mathlib.Core.List.{List}
 use mathlib.Core.Bool.{cond}
-use Prim.Native.Nat.{ℕ, suc, _+_, _<_, _≤_}
-use native.Mathlib.Nat.{add-comm, zero-add}
-use native.Mathlib.Numerals.{one-add}
+use Prim.Native.Nat.{ℕ, _+_, _<_, _≤_}
 use lib.Dec.{eqb}
 use lib.ListN.{length, getD, drop}
 use Rattle.std.proofs.shelf.Lists.{drop-more, drop-all}
@@ -12,7 +10,7 @@ use Rattle.std.proofs.shelf.Tests.{eq-eqb, ne-eqb}
 use Rattle.vectors.specs.Counts.{count}
 
 module _ (v : ℕ) (xs : List ℕ) (i : ℕ) where
-  pub count-drop-more : i < length xs → count v (drop i xs) ≡ cond (eqb v (getD xs i 0)) 1 0 + count v (drop (i + 1) xs)
+  count-drop-more : i < length xs → count v (drop i xs) ≡ cond (eqb v (getD xs i 0)) 1 0 + count v (drop (i + 1) xs)
   count-drop-more h = ap (count v) (drop-more xs i 0 h)
 
   pub count-drop-yes : i < length xs → getD xs i 0 ≡ v → count v (drop i xs) ≡ 1 + count v (drop (i + 1) xs)

@@ -18,6 +18,10 @@ pub made-facts : (P : Type 0) (given : Given) (modulus-in bound-in modulus-rule 
     → Faultless (statement-fault modulus-rule bound-rule (statement given)) × Dimensions given × P × Lengths given × (below (given .modulus) (now (given .target)) ≡ true)
 made-facts P given modulus-in bound-in modulus-rule bound-rule d e h none =
     let fault : statement-fault modulus-rule bound-rule (statement given) ≡ None = ap₂ (λ a b. statement-fault a b (statement given)) (sym d) (sym e) ∙ none in
-    let m = made modulus-rule bound-rule (statement given) fault in
-    (ap isSome fault, (m .rows-range .1, m .columns-range .1), h (m .q-holds), (m .matrix-residues .0, m .target-residues .0),
-    below-from-all (given .modulus) (now (given .target)) (m .target-residues .1))
+    let m = made modulus-rule bound-rule (statement given) fault in (
+      ap isSome fault,
+      (m .rows-range .1, m .columns-range .1),
+      h (m .q-holds),
+      (m .matrix-residues .0, m .target-residues .0),
+      below-from-all (given .modulus) (now (given .target)) (m .target-residues .1),
+    )

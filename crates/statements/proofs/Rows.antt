@@ -1,12 +1,11 @@
 -- The rows of a product one by one, and the sums of products entry by entry.
 use mathlib.Core.Path.{_≡_, refl, sym, _∙_, ap, ap₂}
-use mathlib.Core.List.{List, [], _∷_}
+use mathlib.Core.List.{List}
 use mathlib.Core.Bool.{Bool, true, false}
 use Prim.Native.Nat.{ℕ, zero, suc, _+_, _-_, _*_, _%_, _<_, _≤_}
 use native.Mathlib.Omega.{arith}
 use lib.ListN.{length, getD, take, drop}
 use Rattle.std.proofs.shelf.Lists.{drop-more, drop-all, drop-drop, ext-getD}
-use Rattle.std.proofs.shelf.Tests.{cases-bool}
 use Rattle.vectors.specs.Lists.{same}
 use Rattle.vectors.specs.Residues.{below}
 use Rattle.vectors.proofs.Residues.{below-from-all}

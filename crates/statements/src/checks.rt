@@ -43,8 +43,17 @@ pub fn check(given: &Given, modulus_in: bool, bound_in: bool) -> Result<(), Refu
 }
 
 // Says whether layers and a free part have these lengths and hold residues only.
-pub fn whole(layers: &[u16], layers_len: usize, free: &[u16], free_len: usize, modulus: usize) -> bool
+pub fn whole(
+    layers: &[u16],
+    layers_len: usize,
+    free: &[u16],
+    free_len: usize,
+    modulus: usize,
+) -> bool
     ensures { λ r. ⌜ r ≡ (eqb (length (now (layers .entry))) «layers_len» && (eqb (length (now (free .entry))) «free_len» && (below modulus (now (layers .entry)) && below modulus (now (free .entry))))) ⌝ }
 {
-    layers.len() == layers_len && free.len() == free_len && all_below(layers, modulus) && all_below(free, modulus)
+    layers.len() == layers_len
+        && free.len() == free_len
+        && all_below(layers, modulus)
+        && all_below(free, modulus)
 }

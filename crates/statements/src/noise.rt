@@ -2,8 +2,6 @@
 ghost use mathlib.Core.Path.{_≡_};
 ghost use mathlib.Core.Bool.{true};
 ghost use mathlib.Core.List.{[], _∷_};
-ghost use Prim.Native.Nat.{_≤_};
-ghost use lib.Dec.{eqb};
 ghost use lib.ListN.{length};
 ghost use denote.Ref.{now};
 ghost use Rattle.refusals.specs.Answers.{Answered};
@@ -77,8 +75,9 @@ impl<'a> Noise<'a> {
         ensures { λ _. ⌜ now (noise .exit) ≡ noise-of (statement (now (self .entry) .given)) (now (key .entry)) ⌝ }
     {
         let given = self.given;
-        multiply(given.matrix, given.columns, key, given.modulus as u16, noise);
-        add(noise, given.target, given.modulus as u16);
+        let q = given.modulus as u16;
+        multiply(given.matrix, given.columns, key, q, noise);
+        add(noise, given.target, q);
     }
 
     // Says whether A·free + layer is the target.
@@ -138,11 +137,14 @@ pub impl<'a> Relation for Noise<'a> as NoiseRelation {
 
     fn image(&self, layers: &[u16], free: &[u16], out: &mut [u16]) -> Result<(), Refusal> {
         let given = self.given;
-        if out.len() != given.rows || !whole(layers, given.rows, free, given.columns, given.modulus) {
+        if out.len() != given.rows
+            || !whole(layers, given.rows, free, given.columns, given.modulus)
+        {
             return Err(Refusal::RelationArgument);
         }
-        multiply(given.matrix, given.columns, free, given.modulus as u16, out);
-        add(out, layers, given.modulus as u16);
+        let q = given.modulus as u16;
+        multiply(given.matrix, given.columns, free, q, out);
+        add(out, layers, q);
         Ok(())
     }
 
@@ -163,14 +165,18 @@ pub impl<'a> Relation for Noise<'a> as NoiseRelation {
             return Err(Refusal::KeyLength);
         }
         let mut key_buffer = [0; 256];
-        let key_guard = ZeroOnDrop { area: &mut key_buffer };
+        let key_guard = ZeroOnDrop {
+            area: &mut key_buffer,
+        };
         let numbers = &mut key_guard.area[0..given.columns];
         widen(key, numbers);
         if !all_below(numbers, 2) {
             return Err(Refusal::KeyEntryOutOfRange);
         }
         let mut noise_buffer = [0; 128];
-        let noise_guard = ZeroOnDrop { area: &mut noise_buffer };
+        let noise_guard = ZeroOnDrop {
+            area: &mut noise_buffer,
+        };
         let noise = &mut noise_guard.area[0..given.rows];
         self.write_noise(numbers, noise);
         if count_of(noise, 1) != given.bound {
@@ -183,7 +189,9 @@ pub impl<'a> Relation for Noise<'a> as NoiseRelation {
 
     fn gather(&self, layers: &[u16], free: &[u16], key: &mut [u8]) -> Result<(), Refusal> {
         let given = self.given;
-        if key.len() != given.columns || !whole(layers, given.rows, free, given.columns, given.modulus) {
+        if key.len() != given.columns
+            || !whole(layers, given.rows, free, given.columns, given.modulus)
+        {
             return Err(Refusal::RelationArgument);
         }
         if !has_ones(layers, given.bound) {

@@ -3,7 +3,6 @@ ghost use mathlib.Core.Path.{_≡_};
 ghost use mathlib.Core.List.{[], _∷_};
 ghost use lib.ListN.{length};
 ghost use denote.Ref.{now};
-ghost use Rattle.std.specs.declared.option.Option.the-variants.{None};
 ghost use Rattle.refusals.specs.Answers.{Answered};
 ghost use Rattle.relation_laws.specs.Statements.{weight-fault};
 ghost use Rattle.relation_laws.specs.Weight.{weight, weight-key-fault};
@@ -76,7 +75,8 @@ impl<'a> Weight<'a> {
         if count_of(key, 1) != given.bound {
             return Err(Refusal::KeyWeight);
         }
-        if !product_is(given.matrix, given.columns, key, given.modulus as u16, given.target) {
+        let q = given.modulus as u16;
+        if !product_is(given.matrix, given.columns, key, q, given.target) {
             return Err(Refusal::KeyImage);
         }
         Ok(())
@@ -127,7 +127,8 @@ pub impl<'a> Relation for Weight<'a> as WeightRelation {
         if out.len() != given.rows || !whole(layers, given.columns, free, 0, given.modulus) {
             return Err(Refusal::RelationArgument);
         }
-        multiply(given.matrix, given.columns, layers, given.modulus as u16, out);
+        let q = given.modulus as u16;
+        multiply(given.matrix, given.columns, layers, q, out);
         Ok(())
     }
 
@@ -166,7 +167,8 @@ pub impl<'a> Relation for Weight<'a> as WeightRelation {
         if !has_ones(layers, given.bound) {
             return Err(Refusal::NoExtractedKey);
         }
-        if !product_is(given.matrix, given.columns, layers, given.modulus as u16, given.target) {
+        let q = given.modulus as u16;
+        if !product_is(given.matrix, given.columns, layers, q, given.target) {
             return Err(Refusal::NoExtractedKey);
         }
         narrow(layers, key);

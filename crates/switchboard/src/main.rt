@@ -3,6 +3,7 @@ use std::env;
 use std::error::AnyError;
 
 mod commitments;
+mod drawing;
 mod keys;
 mod text;
 
@@ -13,7 +14,8 @@ fn run(rt: &LibcRuntime) -> Result<(), AnyError> {
         Some(message) => commitments::run(rt, message.as_str())?,
         None => commitments::run(rt, "console 7 asks to listen on line 2")?,
     }
-    keys::run(rt)
+    keys::run(rt)?;
+    drawing::run(rt)
 }
 
 fn main(rt: LibcRuntime) -> Result<(), AnyError> {

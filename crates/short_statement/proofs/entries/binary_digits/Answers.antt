@@ -1,7 +1,5 @@
-use mathlib.Core.Path.{sym, _∙_, ap}
-use Prim.Native.Nat.{_+_, _-_}
-use native.Mathlib.Omega.{arith}
-use Rattle.relation_laws.specs.Short.{digits-among}
+use mathlib.Core.Path.{sym, _∙_}
+use Prim.Native.Nat.{_-_}
 use Rattle.short_statement.proofs.Numbers.{digits-step, digits-none}
 use Rattle.short_statement.proofs.entries.binary_digits.Needs as need
 

@@ -1,8 +1,7 @@
-use mathlib.Core.Path.{_≡_, _∙_, ap, ap₂}
+use mathlib.Core.Path.{_∙_, ap, ap₂}
 use borrow.Author.Needs.{needs}
-use lib.IntN.{pos, natAbs}
+use lib.IntN.{natAbs}
 use mir.Syntax.{w32}
-use mir.Val.{toZ, ofZ}
 use Rattle.std.specs.Numbers.{remEuclid}
 use Rattle.std.proofs.shelf.Signed.{toZ-ofZ, toZ-pos}
 use Rattle.short_statement.proofs.Numbers.{residue-remEuclid}

@@ -1,7 +1,6 @@
-use mathlib.Core.Path.{_≡_, sym, _∙_, ap, subst}
-use native.Mathlib.Omega.{arith}
+use mathlib.Core.Path.{sym, _∙_, ap, subst}
 use borrow.Author.Needs.{needs}
-use lib.ListN.{length, take}
+use lib.ListN.{length}
 use Rattle.std.proofs.shelf.Lists.{length-map, take-at}
 use Rattle.relation_laws.specs.Short.{signed-digit, filled}
 use Rattle.relation_laws.proofs.Counts.{Only}
@@ -11,9 +10,16 @@ use Rattle.short_statement.proofs.layers.write_layer.Needs as need
 
 pub fill-up-requires : need.fill-up-requires
 fill-up-requires c κs =
-    let long = ap length (c .write-digits .ensures) ∙ length-map (c .args .key .now) (signed-digit (c .args .q) (c .args .j)) in
-    (search needs, (search needs, (search needs,
-    subst (Only (units (c .args .q))) (sym (take-at (c .write-digits .last .out) _ (length (c .args .key .now)) long ∙ c .write-digits .ensures)) (only-digits (c .args .q) (c .args .j) (c .args .key .now)))))
+    let long = ap length (c .write-digits .ensures) ∙ length-map (c .args .key .now) (signed-digit (c .args .q) (c .args .j)) in (
+      search needs,
+      (
+        search needs,
+        (
+          search needs,
+          subst (Only (units (c .args .q))) (sym (take-at (c .write-digits .last .out) _ (length (c .args .key .now)) long ∙ c .write-digits .ensures)) (only-digits (c .args .q) (c .args .j) (c .args .key .now)),
+        ),
+      ),
+    )
 
 pub returns : need.returns
 returns c =

@@ -1,5 +1,5 @@
 use mathlib.Core.Path.{_≡_, sym, _∙_, ap, ap₂}
-use Prim.Native.Nat.{ℕ, _+_, _-_, _*_}
+use Prim.Native.Nat.{_+_, _-_, _*_}
 use native.Mathlib.Omega.{arith}
 use borrow.Author.Needs.{needs}
 use lib.IntN.{_+ℤ_}
@@ -8,7 +8,8 @@ use mir.Syntax.{w32}
 use mir.Val.{SFits, toZ, ofZ}
 use Rattle.std.proofs.shelf.Signed.{toZ-ofZ}
 use Rattle.relation_laws.specs.Short.{size, signed}
-use Rattle.short_statement.proofs.Places.{place-within, power-before, power-small, signed-place-sum-none, signed-place-sum-before, signed-place-sum-all, size-signed, size-with-doubled}
+use Rattle.short_statement.specs.Sums.{signed-place-sum}
+use Rattle.short_statement.proofs.Places.{place-within, power-before, power-small, signed-place-sum-before, from-last, from-first, size-signed, size-with-doubled}
 use Rattle.short_statement.proofs.sums.signed_place_sum.Needs as need
 
 pub offset-layers-j : need.offset-layers-j
@@ -34,7 +35,7 @@ with-doubled-sum-requires c κs =
 
 pub loop-j-holds : need.loop-j-holds
 loop-j-holds c =
-    (signed-place-sum-none (c .args .q) (c .args .layer-count) (c .args .layer-len) (c .args .i) (c .args .layers .now), search needs)
+    (sym (from-last (signed-place-sum (c .args .q) (c .args .layer-len) (c .args .i)) (c .args .layer-count) (c .args .layer-len) (c .args .layers .now)), search needs)
 
 pub loop-j-again : need.loop-j-again
 loop-j-again c =
@@ -47,11 +48,19 @@ loop-j-again c =
     let g : SFits w32 (c .with-doubled-sum .result) = search needs in
     let x = getD (c .args .layers .now) ((j - 1) * N + c .args .i) 0 in
     let a = toZ-ofZ w32 (c .with-doubled-sum .result) g in
-    let b = toZ-ofZ w32 (c .signed .result) f ∙ c .signed .ensures in
-    (a ∙ c .with-doubled-sum .ensures ∙ ap₂ (λ y z. y +ℤ (z +ℤ z)) b (c .loop-j .inv .0) ∙ sym (signed-place-sum-before K N j (c .args .i) h l (c .args .layers .now) (c .args .q)),
-    omega (arith, ap size (a ∙ c .with-doubled-sum .ensures ∙ ap₂ (λ y z. y +ℤ (z +ℤ z)) b (c .loop-j .sum-is)), size-with-doubled (signed (c .args .q) x) (c .loop-j .sum),
-    size-signed (c .args .q) x (search needs), ap size (c .loop-j .sum-is), c .loop-j .inv .1, power-before K N j (c .args .i) h l))
+    let b = toZ-ofZ w32 (c .signed .result) f ∙ c .signed .ensures in (
+      a ∙ c .with-doubled-sum .ensures ∙ ap₂ (λ y z. y +ℤ (z +ℤ z)) b (c .loop-j .inv .0) ∙ sym (signed-place-sum-before K N j (c .args .i) h l (c .args .layers .now) (c .args .q)),
+      omega (
+        arith,
+        ap size (a ∙ c .with-doubled-sum .ensures ∙ ap₂ (λ y z. y +ℤ (z +ℤ z)) b (c .loop-j .sum-is)),
+        size-with-doubled (signed (c .args .q) x) (c .loop-j .sum),
+        size-signed (c .args .q) x (search needs),
+        ap size (c .loop-j .sum-is),
+        c .loop-j .inv .1,
+        power-before K N j (c .args .i) h l,
+      ),
+    )
 
 pub returns : need.returns
 returns c =
-    c .loop-j .inv .0 ∙ signed-place-sum-all (c .args .q) (c .args .layer-count) (c .args .layer-len) (c .args .i) (c .loop-j .j) (c .args .layers .now) (c .loop-j-test .left)
+    c .loop-j .inv .0 ∙ from-first (signed-place-sum (c .args .q) (c .args .layer-len) (c .args .i)) (c .args .layer-count) (c .args .layer-len) (c .args .layers .now) (c .loop-j .j) (c .loop-j-test .left)

@@ -1,10 +1,9 @@
-use mathlib.Core.Path.{_≡_, sym, _∙_}
-use Prim.Native.Nat.{_%_}
+use mathlib.Core.Path.{sym, _∙_}
 use native.Mathlib.Omega.{arith}
 use borrow.Author.Count.{below-more}
 use borrow.Author.Needs.{needs}
 use Rattle.vectors.proofs.Layers.{row-within}
-use Rattle.statements.proofs.Rows.{entry, entry-row, same-from-entries, not-same-from-entry}
+use Rattle.statements.proofs.Rows.{entry-row, same-from-entries, not-same-from-entry}
 use Rattle.statements.proofs.products.product_is.Needs as need
 
 pub offset-matrix-start : need.offset-matrix-start

@@ -14,7 +14,7 @@ returns-then-out-given c =
     let zs = c .args .layers .now in
     let t = c .args .free .now in
     elim (c .then-out-given .came) [
-      then-out-given·by·then-out-given w ↦ search needs
-    | then-out-given·by·else-out-given·then-not-whole w ↦
-        (image-fault-refused (weight (statement given)) zs t (length (c .args .out .now)) (whole-is (weight (statement given)) zs t (given .columns) (omega arith) false (w .if-not-whole .ensures tt)), search needs)
+      | then-out-given·by·then-out-given w ↦ search needs
+      | then-out-given·by·else-out-given·then-not-whole w ↦
+          (image-fault-refused (weight (statement given)) zs t (length (c .args .out .now)) (whole-is (weight (statement given)) zs t (given .columns) (omega arith) false (w .if-not-whole .ensures tt)), search needs)
     ]

@@ -14,12 +14,16 @@ returns-then-layers-columns c = ⊎-elim (λ h. search needs) (λ h. search need
 
 pub returns-in-Err : need.returns-in-Err
 returns-in-Err c =
-    let s = statement (c .args .self .now .given) in
-    (split-fault-fits (weight s) (c .args .key .now) (length (c .args .layers .now)) (length (c .args .free .now)) (omega arith) (omega arith)
-        ∙ ap (weight-key-fault s) (sym (c .widen .ensures)) ∙ c .in-Err .ensures tt .0, search needs)
+    let s = statement (c .args .self .now .given) in (
+      split-fault-fits (weight s) (c .args .key .now) (length (c .args .layers .now)) (length (c .args .free .now)) (omega arith) (omega arith)
+          ∙ ap (weight-key-fault s) (sym (c .widen .ensures)) ∙ c .in-Err .ensures tt .0,
+      search needs,
+    )
 
 pub returns : need.returns
 returns c =
-    let s = statement (c .args .self .now .given) in
-    (split-fault-fits (weight s) (c .args .key .now) (length (c .args .layers .now)) (length (c .args .free .now)) (omega arith) (omega arith)
-        ∙ ap (weight-key-fault s) (sym (c .widen .ensures)) ∙ c .in-rest .ensures tt .0, (search needs, nil-from-length (c .args .free .now) (omega arith)))
+    let s = statement (c .args .self .now .given) in (
+      split-fault-fits (weight s) (c .args .key .now) (length (c .args .layers .now)) (length (c .args .free .now)) (omega arith) (omega arith)
+          ∙ ap (weight-key-fault s) (sym (c .widen .ensures)) ∙ c .in-rest .ensures tt .0,
+      (search needs, nil-from-length (c .args .free .now) (omega arith)),
+    )

@@ -1,0 +1,5 @@
+pub mod Completeness
+pub mod Soundness
+pub mod HidingMap
+pub mod Findings
+pub mod Deciding
