@@ -8,7 +8,7 @@ use Rattle.std.specs.declared.option.Option.the-variants.{Some, None}
 use Rattle.std.specs.shelf.Lists.{between}
 use Rattle.refusals.specs.declared.fault.Fault.{Fault}
 use Rattle.messages.specs.declared.fields.Field.{Field}
-use Rattle.messages.specs.declared.fields.Opening.{Opening}
+use Rattle.messages.specs.declared.fields.LongAnswer.{LongAnswer}
 use Rattle.messages.specs.declared.fields.Sizes.{Sizes}
 use Rattle.messages.specs.Reading.{Slot, field-fault}
 
@@ -26,10 +26,10 @@ pub record Wrong (slot : Slot) (at : ℕ) (bytes : List ℕ) (fault : Fault) : T
   pub place : fault .place ≡ at
 
 -- the fields of an answer to challenge 2 or 3, whose tags begin with the given one
-abbrev pub opening-slots : ℕ → Sizes → List Slot
-opening-slots tag s =
+abbrev pub long-slots : ℕ → Sizes → List Slot
+long-slots tag s =
     record { tag = tag; size = s .layers } ∷ record { tag = tag + 1; size = s .layers } ∷ record { tag = tag + 2; size = s .free }
     ∷ record { tag = tag + 3; size = s .width } ∷ record { tag = tag + 4; size = s .width } ∷ []
 
-abbrev pub opening-fields : Opening → List Field
-opening-fields o = o .permutations ∷ o .layers ∷ o .free ∷ o .lower ∷ o .upper ∷ []
+abbrev pub long-fields : LongAnswer → List Field
+long-fields a = a .permutations ∷ a .layers ∷ a .free ∷ a .«lower_coins» ∷ a .«upper_coins» ∷ []

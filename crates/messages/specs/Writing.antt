@@ -27,12 +27,12 @@ commitments-fault room one two three =
     cond (leb (length one) 65535 && (leb (length two) 65535 && (leb (length three) 65535 && leb (length (commitments-written one two three)) room))) None (Some 37)
 
 -- the writing of an answer to challenge 2 or 3, whose tags begin with the given one
-abbrev pub opening-written : ℕ → List ℕ → List ℕ → List ℕ → List ℕ → List ℕ → List ℕ
-opening-written tag permutations layers free lower upper =
+abbrev pub long-written : ℕ → List ℕ → List ℕ → List ℕ → List ℕ → List ℕ → List ℕ
+long-written tag permutations layers free lower upper =
     written (tag ∷ (tag + 1) ∷ (tag + 2) ∷ (tag + 3) ∷ (tag + 4) ∷ []) (bytes permutations ∷ bytes layers ∷ bytes free ∷ lower ∷ upper ∷ [])
 
 -- two bytes hold the length of each of its fields, and the fields have room
-pub record OpeningFits (room : ℕ) (permutations layers free lower upper : List ℕ) : Type 0 where
+pub record LongFits (room : ℕ) (permutations layers free lower upper : List ℕ) : Type 0 where
   pub fields : 15 + 2 * length permutations + 2 * length layers + 2 * length free + length lower + length upper ≤ room
   pub permutations-short : 2 * length permutations < 65536
   pub layers-short : 2 * length layers < 65536

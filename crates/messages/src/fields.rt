@@ -40,14 +40,14 @@ pub enum Answer<'a> {
     },
 }
 
-// An answer to challenge 2 or 3, both of which have the same parts: the coins belong to a lower and an upper commitment.
+// The fields of an answer to challenge 2 or 3: both have the same parts, and coins of two commitments.
 #[derive(Clone, Copy)]
-pub(crate) struct Opening<'a> {
+pub(crate) struct LongAnswer<'a> {
     pub(crate) permutations: Field<'a>,
     pub(crate) layers: Field<'a>,
     pub(crate) free: Field<'a>,
-    pub(crate) lower: Field<'a>,
-    pub(crate) upper: Field<'a>,
+    pub(crate) lower_coins: Field<'a>,
+    pub(crate) upper_coins: Field<'a>,
 }
 
 // The lengths of contents in bytes: of all layers, of a free part, and of coins and commitments.

@@ -6,14 +6,14 @@ ghost use lib.ListN.{length, drop};
 ghost use Rattle.std.specs.Results.{Cases};
 ghost use Rattle.std.specs.declared.option.Option.the-variants.{Some};
 ghost use Rattle.messages.specs.Reading.{reading-fault};
-ghost use Rattle.messages.specs.Steps.{Taken, Wrong, opening-slots, opening-fields};
+ghost use Rattle.messages.specs.Steps.{Taken, Wrong, long-slots, long-fields};
 ghost use Rattle.messages.specs.Contents.{commitment-slots, commitment-fields, answer-slots, answer-fields, asked, Handed};
 ghost use Rattle.messages.specs.declared.challenge.Challenge.the-variants.{One};
 use crate::challenge::Challenge;
 use crate::fields::Answer;
 use crate::fields::Commitments;
 use crate::fields::Field;
-use crate::fields::Opening;
+use crate::fields::LongAnswer;
 use crate::fields::Sizes;
 use refusals::fault::Fault;
 use refusals::fault::FaultKind;
@@ -117,9 +117,9 @@ fn read_first<'a>(message: &'a [u8], sizes: Sizes) -> Result<Answer<'a>, Fault>
 }
 
 // Reads an answer to challenge 2 or 3, by the tag of its first field.
-fn read_opening<'a>(message: &'a [u8], tag: u8, sizes: Sizes) -> Result<Opening<'a>, Fault>
+fn read_long<'a>(message: &'a [u8], tag: u8, sizes: Sizes) -> Result<LongAnswer<'a>, Fault>
     requires { ⌜ tag + 4 < 256 ⌝ }
-    ensures { λ r. ⌜ Cases r (λ o. Handed (opening-slots tag sizes) (now (message .entry)) (opening-fields o)) (λ fault. reading-fault (opening-slots tag sizes) 0 (now (message .entry)) ≡ Some fault) ⌝ }
+    ensures { λ r. ⌜ Cases r (λ a. Handed (long-slots tag sizes) (now (message .entry)) (long-fields a)) (λ fault. reading-fault (long-slots tag sizes) 0 (now (message .entry)) ≡ Some fault) ⌝ }
 {
     let permutations = read_field(message, 0, tag, sizes.layers)?;
     let layers_at = 3 + sizes.layers;
@@ -127,16 +127,16 @@ fn read_opening<'a>(message: &'a [u8], tag: u8, sizes: Sizes) -> Result<Opening<
     let free_at = layers_at + 3 + sizes.layers;
     let free = read_field(message, free_at, tag + 2, sizes.free)?;
     let lower_at = free_at + 3 + sizes.free;
-    let lower = read_field(message, lower_at, tag + 3, sizes.width)?;
+    let lower_coins = read_field(message, lower_at, tag + 3, sizes.width)?;
     let upper_at = lower_at + 3 + sizes.width;
-    let upper = read_field(message, upper_at, tag + 4, sizes.width)?;
+    let upper_coins = read_field(message, upper_at, tag + 4, sizes.width)?;
     end_at(message, upper_at + 3 + sizes.width)?;
-    Ok(Opening {
+    Ok(LongAnswer {
         permutations,
         layers,
         free,
-        lower,
-        upper,
+        lower_coins,
+        upper_coins,
     })
 }
 
@@ -151,23 +151,23 @@ pub fn read_answer<'a>(
     match challenge {
         Challenge::One => read_first(message, sizes),
         Challenge::Two => {
-            let o = read_opening(message, 21, sizes)?;
+            let long = read_long(message, 21, sizes)?;
             Ok(Answer::Second {
-                permutations: o.permutations,
-                masked_key: o.layers,
-                masked_free: o.free,
-                coins_1: o.lower,
-                coins_3: o.upper,
+                permutations: long.permutations,
+                masked_key: long.layers,
+                masked_free: long.free,
+                coins_1: long.lower_coins,
+                coins_3: long.upper_coins,
             })
         }
         Challenge::Three => {
-            let o = read_opening(message, 31, sizes)?;
+            let long = read_long(message, 31, sizes)?;
             Ok(Answer::Third {
-                permutations: o.permutations,
-                mask: o.layers,
-                free: o.free,
-                coins_1: o.lower,
-                coins_2: o.upper,
+                permutations: long.permutations,
+                mask: long.layers,
+                free: long.free,
+                coins_1: long.lower_coins,
+                coins_2: long.upper_coins,
             })
         }
     }

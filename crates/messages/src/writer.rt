@@ -12,7 +12,7 @@ ghost use Rattle.vectors.specs.Layers.{permuted-layers};
 ghost use Rattle.vectors.specs.Residues.{below};
 ghost use Rattle.messages.specs.Fields.{field};
 ghost use Rattle.messages.specs.Contents.{to-first, to-second, to-third, answer-written, commitments-written};
-ghost use Rattle.messages.specs.Writing.{three-fit, commitments-fault, opening-written, OpeningFits, Wrote};
+ghost use Rattle.messages.specs.Writing.{three-fit, commitments-fault, long-written, LongFits, Wrote};
 use refusals::refusal::Refusal;
 use vectors::encoding::write_words;
 use vectors::parts::copy_part;
@@ -156,7 +156,7 @@ pub fn write_first(
 }
 
 // Writes the answer to challenge 2 or 3, by the tag of its first field.
-fn write_opening(
+fn write_long(
     out: &mut [u8],
     tag: u8,
     permutations: &[u16],
@@ -165,8 +165,8 @@ fn write_opening(
     lower: &[u8],
     upper: &[u8],
 ) -> usize
-    requires { ⌜ tag + 4 < 256 ⌝ ∗ ⌜ OpeningFits (length (now out)) (now permutations) (now layers) (now free) (now lower) (now upper) ⌝ }
-    ensures { λ r. ⌜ Wrote (now (out .entry)) (opening-written tag (now (permutations .entry)) (now (layers .entry)) (now (free .entry)) (now (lower .entry)) (now (upper .entry))) (now (out .exit)) r ⌝ }
+    requires { ⌜ tag + 4 < 256 ⌝ ∗ ⌜ LongFits (length (now out)) (now permutations) (now layers) (now free) (now lower) (now upper) ⌝ }
+    ensures { λ r. ⌜ Wrote (now (out .entry)) (long-written tag (now (permutations .entry)) (now (layers .entry)) (now (free .entry)) (now (lower .entry)) (now (upper .entry))) (now (out .exit)) r ⌝ }
 {
     let layers_at = write_words_field(out, 0, tag, permutations);
     let free_at = write_words_field(out, layers_at, tag + 1, layers);
@@ -184,10 +184,10 @@ pub fn write_second(
     coins_1: &[u8],
     coins_3: &[u8],
 ) -> usize
-    requires { ⌜ OpeningFits (length (now out)) (now permutations) (now «masked_key») (now «masked_free») (now «coins_1») (now «coins_3») ⌝ }
+    requires { ⌜ LongFits (length (now out)) (now permutations) (now «masked_key») (now «masked_free») (now «coins_1») (now «coins_3») ⌝ }
     ensures { λ r. ⌜ Wrote (now (out .entry)) (answer-written (to-second (now (permutations .entry)) (now («masked_key» .entry)) (now («masked_free» .entry)) (now («coins_1» .entry)) (now («coins_3» .entry)))) (now (out .exit)) r ⌝ }
 {
-    write_opening(
+    write_long(
         out,
         21,
         permutations,
@@ -207,8 +207,8 @@ pub fn write_third(
     coins_1: &[u8],
     coins_2: &[u8],
 ) -> usize
-    requires { ⌜ OpeningFits (length (now out)) (now permutations) (now mask) (now free) (now «coins_1») (now «coins_2») ⌝ }
+    requires { ⌜ LongFits (length (now out)) (now permutations) (now mask) (now free) (now «coins_1») (now «coins_2») ⌝ }
     ensures { λ r. ⌜ Wrote (now (out .entry)) (answer-written (to-third (now (permutations .entry)) (now (mask .entry)) (now (free .entry)) (now («coins_1» .entry)) (now («coins_2» .entry)))) (now (out .exit)) r ⌝ }
 {
-    write_opening(out, 31, permutations, mask, free, coins_1, coins_2)
+    write_long(out, 31, permutations, mask, free, coins_1, coins_2)
 }

@@ -4,7 +4,7 @@ use native.Mathlib.Omega.{arith}
 use Rattle.vectors.specs.Words.{bytes}
 use Rattle.vectors.proofs.Words.{length-bytes}
 use Rattle.messages.proofs.Writing.{placed-none, placed-more, wrote}
-use Rattle.messages.proofs.writer.write_opening.Needs as need
+use Rattle.messages.proofs.writer.write_long.Needs as need
 
 pub returns : need.returns
 returns c =
