@@ -1,4 +1,4 @@
-// Messages between console and exchange: reading, writing, and the checks that need no commitment.
+// Messages between console and exchange: reading and writing them, field by field.
 pub mod challenge;
 pub mod fields;
 pub mod reader;
