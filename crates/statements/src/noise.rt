@@ -189,8 +189,8 @@ pub impl<'a> Relation for Noise<'a> as NoiseRelation {
 
     fn gather(&self, layers: &[u16], free: &[u16], key: &mut [u8]) -> Result<(), Refusal> {
         let given = self.given;
-        if key.len() != given.columns
-            || !whole(layers, given.rows, free, given.columns, given.modulus)
+        if !whole(layers, given.rows, free, given.columns, given.modulus)
+            || key.len() != given.columns
         {
             return Err(Refusal::RelationArgument);
         }
