@@ -1,4 +1,6 @@
 // Checks on a read answer that need no commitment: residues below the modulus, and lists of positions that are permutations.
+#![tactic(auto)]
+
 ghost use Rattle.std.specs.Prelude.{◌≡◌, ◌+◌, ◌*◌, ◌^◌, ◌<◌, ◌≤◌, length, slice_index};
 ghost use Rattle.vectors.specs.Words.{words};
 ghost use Rattle.vectors.specs.Permutations.{permutes};

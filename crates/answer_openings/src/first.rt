@@ -22,8 +22,8 @@ pub fn open_first<S: Scheme>(
     sum: &mut [u16],
     q: u16,
 ) -> Result<Option<Cause>, Refusal>
-    requires mask_len { (length mask.now ≡ 2 * length sum.old) × ((below q sum.old ≡ true) × ((below q (words mask.now) ≡ true) × (bytes (words mask.now) ≡ mask.now))) }
-    requires coins_len { (length second.coins.now ≡ (S.Scheme.meaning scheme.old).width) × ((length third.coins.now ≡ (S.Scheme.meaning scheme.old).width) × (length mask.now ≤ (S.Scheme.meaning scheme.old).limit)) }
+    requires whole { (length mask.now ≡ 2 * length sum.old) × ((below q sum.old ≡ true) × ((below q (words mask.now) ≡ true) × (bytes (words mask.now) ≡ mask.now))) }
+    requires widths { (length second.coins.now ≡ (S.Scheme.meaning scheme.old).width) × ((length third.coins.now ≡ (S.Scheme.meaning scheme.old).width) × (length mask.now ≤ (S.Scheme.meaning scheme.old).limit)) }
     ensures outcome { MatchResult result (λ verdict. (verdict ≡ pair_cause (S.Scheme.meaning scheme.old) second.entry (bytes (words mask.now)) third.entry (bytes (plus q sum.old (words mask.now)))) × Fresh (S.Scheme.meaning scheme.old) (S.Scheme.state scheme.new)) (λ _. ⊥) }
     ensures kept { S.Scheme.meaning scheme.new ≡ S.Scheme.meaning scheme.old }
 {

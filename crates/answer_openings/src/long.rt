@@ -49,8 +49,8 @@ pub fn open_long<R: Relation, S: Scheme>(
     less_target: bool,
     work: &mut [u16],
 ) -> Result<Option<Cause>, Refusal>
-    requires long_ready { LongReady (R.Relation.meaning relation.now) (S.Scheme.meaning scheme.old).width parts.permutations.now parts.layers.now parts.free.now lower.coins.now upper.coins.now }
-    requires relation_bound { (committed_size (R.Relation.meaning relation.now) ≤ (S.Scheme.meaning scheme.old).limit) × (length work.old ≡ work_size (R.Relation.meaning relation.now)) }
+    requires ready { LongReady (R.Relation.meaning relation.now) (S.Scheme.meaning scheme.old).width parts.permutations.now parts.layers.now parts.free.now lower.coins.now upper.coins.now }
+    requires room { (committed_size (R.Relation.meaning relation.now) ≤ (S.Scheme.meaning scheme.old).limit) × (length work.old ≡ work_size (R.Relation.meaning relation.now)) }
     ensures outcome { MatchResult result (λ verdict. (verdict ≡ long_cause (R.Relation.meaning relation.now) (S.Scheme.meaning scheme.old) lower.entry upper.entry less_target (words parts.entry.permutations.now) (words parts.entry.layers.now) (words parts.entry.free.now)) × Fresh (S.Scheme.meaning scheme.old) (S.Scheme.state scheme.new)) (λ _. ⊥) }
     ensures kept { S.Scheme.meaning scheme.new ≡ S.Scheme.meaning scheme.old }
 {
@@ -85,9 +85,9 @@ fn open_numbers<R: Relation, S: Scheme>(
     less_target: bool,
     value: &mut [u8],
 ) -> Result<Option<Cause>, Refusal>
-    requires permutations_len { (length permutations.now ≡ 2 * ((R.Relation.meaning relation.now).layer_count * (R.Relation.meaning relation.now).layer_len)) × ((Permutations (R.Relation.meaning relation.now).layer_len (R.Relation.meaning relation.now).layer_count (words permutations.now)) × (bytes (words permutations.now) ≡ permutations.now)) }
-    requires layers { (Layers (R.Relation.meaning relation.now) layers.now) × ((Free (R.Relation.meaning relation.now) free.now) × (committed_size (R.Relation.meaning relation.now) ≤ (S.Scheme.meaning scheme.old).limit)) }
-    requires coins_len { (length lower.coins.now ≡ (S.Scheme.meaning scheme.old).width) × ((length upper.coins.now ≡ (S.Scheme.meaning scheme.old).width) × (length value.old ≡ (S.Scheme.meaning scheme.old).width)) }
+    requires arranged { (length permutations.now ≡ 2 * ((R.Relation.meaning relation.now).layer_count * (R.Relation.meaning relation.now).layer_len)) × ((Permutations (R.Relation.meaning relation.now).layer_len (R.Relation.meaning relation.now).layer_count (words permutations.now)) × (bytes (words permutations.now) ≡ permutations.now)) }
+    requires residues { (Layers (R.Relation.meaning relation.now) layers.now) × ((Free (R.Relation.meaning relation.now) free.now) × (committed_size (R.Relation.meaning relation.now) ≤ (S.Scheme.meaning scheme.old).limit)) }
+    requires widths { (length lower.coins.now ≡ (S.Scheme.meaning scheme.old).width) × ((length upper.coins.now ≡ (S.Scheme.meaning scheme.old).width) × (length value.old ≡ (S.Scheme.meaning scheme.old).width)) }
     ensures outcome { MatchResult result (λ verdict. (verdict ≡ long_cause (R.Relation.meaning relation.now) (S.Scheme.meaning scheme.old) lower.entry upper.entry less_target (words permutations.now) layers.now free.now) × Fresh (S.Scheme.meaning scheme.old) (S.Scheme.state scheme.new)) (λ _. ⊥) }
     ensures kept { S.Scheme.meaning scheme.new ≡ S.Scheme.meaning scheme.old }
 {

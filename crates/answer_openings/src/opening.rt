@@ -2,7 +2,7 @@
 ghost use Rattle.std.specs.Prelude.{◌≡◌, ◌≤◌, length, MatchResult};
 ghost use Rattle.vectors.specs.Lists.{same};
 ghost use Rattle.commitment.specs.Meaning.{Fresh};
-ghost use Rattle.commitment.specs.Messages.{content as part-content};
+ghost use Rattle.commitment.specs.Messages.{content as part_content};
 
 use commitment::message::opens;
 use commitment::part::Part;
@@ -39,8 +39,8 @@ pub fn has_value(shown: Shown, value: &[u8]) -> bool
 
 // Says whether the coins and the message open the commitment. Nothing is refused.
 pub fn opens_by<S: Scheme>(scheme: &mut S, shown: Shown, text: Part) -> Result<bool, Refusal>
-    requires { (length shown.coins.now ≡ (S.Scheme.meaning scheme.old).width) × (length (part-content text) ≤ (S.Scheme.meaning scheme.old).limit) }
-    ensures outcome { MatchResult result (λ b. (b ≡ same shown.entry.commitment.now ((S.Scheme.meaning scheme.old).value shown.entry.coins.now (part-content text.entry))) × Fresh (S.Scheme.meaning scheme.old) (S.Scheme.state scheme.new)) (λ _. ⊥) }
+    requires { (length shown.coins.now ≡ (S.Scheme.meaning scheme.old).width) × (length (part_content text) ≤ (S.Scheme.meaning scheme.old).limit) }
+    ensures outcome { MatchResult result (λ b. (b ≡ same shown.entry.commitment.now ((S.Scheme.meaning scheme.old).value shown.entry.coins.now (part_content text.entry))) × Fresh (S.Scheme.meaning scheme.old) (S.Scheme.state scheme.new)) (λ _. ⊥) }
     ensures kept { S.Scheme.meaning scheme.new ≡ S.Scheme.meaning scheme.old }
 {
     let opened = opens(scheme, shown.commitment, shown.coins, &[text])?;

@@ -268,9 +268,9 @@ impl<R: Relation, S: Scheme> Console<R, S> {
 
     // Zeroes the line's mask and frees the line.
     fn clear(&mut self, numbers: &mut [u16], coins: &mut [u8], line: usize)
-        requires line_bound { line < 4 }
-        requires scheme_in_bounds { 4 * mask_size (R.Relation.meaning self.old.relation) (S.Scheme.meaning self.old.scheme) ≤ length numbers.old }
-        requires scheme_in_bounds_2 { 4 * coins_size (R.Relation.meaning self.old.relation) (S.Scheme.meaning self.old.scheme) ≤ length coins.old }
+        requires line_in_range { line < 4 }
+        requires numbers_suffice { 4 * mask_size (R.Relation.meaning self.old.relation) (S.Scheme.meaning self.old.scheme) ≤ length numbers.old }
+        requires coins_suffice { 4 * coins_size (R.Relation.meaning self.old.relation) (S.Scheme.meaning self.old.scheme) ≤ length coins.old }
         ensures ends { (console_state self.new.lines self.new.loads numbers.new coins.new) ≡ cleared (R.Relation.meaning self.old.relation) (S.Scheme.meaning self.old.scheme) (console_state self.old.lines self.old.loads numbers.old coins.old) line }
         ensures kept { (self.new.relation ≡ self.old.relation) × (self.new.scheme ≡ self.old.scheme) }
     {

@@ -53,9 +53,9 @@ pub(crate) fn mask_on<'n, 'c, R: Relation, S: Scheme>(
     coins: &'c [u8],
     line: usize,
 ) -> MaskParts<'n, 'c>
-    requires line_bound { line < 4 }
-    requires scheme_in_bounds { 4 * mask_size (R.Relation.meaning relation.now) (S.Scheme.meaning scheme.now) ≤ length numbers.now }
-    requires scheme_in_bounds_2 { 4 * coins_size (R.Relation.meaning relation.now) (S.Scheme.meaning scheme.now) ≤ length coins.now }
+    requires line_in_range { line < 4 }
+    requires numbers_suffice { 4 * mask_size (R.Relation.meaning relation.now) (S.Scheme.meaning scheme.now) ≤ length numbers.now }
+    requires coins_suffice { 4 * coins_size (R.Relation.meaning relation.now) (S.Scheme.meaning scheme.now) ≤ length coins.now }
     ensures { mask_of result.permutations.now result.layers.now result.free.now result.coins.now ≡ mask_on (R.Relation.meaning relation.now) (S.Scheme.meaning scheme.now) (console_state [] 0 numbers.now coins.now) line }
 {
     let entries = relation.layer_count() * relation.layer_len();

@@ -6,7 +6,7 @@ ghost use Rattle.masks.specs.Mask.{mask_of};
 ghost use Rattle.messages.specs.Contents.{answer_slots, answer_written};
 ghost use Rattle.messages.specs.Writing.{Wrote};
 ghost use Rattle.moves.specs.Causes.{sizes};
-ghost use Rattle.moves.specs.Moves.{answer as answer-of};
+ghost use Rattle.moves.specs.Moves.{answer as answer_of};
 ghost use Rattle.moves.specs.Sizes.{total_size};
 ghost use Rattle.console_moves.specs.Faults.{answer_fault, answer_message, challenge_numbered};
 ghost use Rattle.console_moves.specs.Steps.{answer_checks, AnswerReady};
@@ -118,7 +118,7 @@ fn write_answer<R: Relation, S: Scheme>(
     out: &mut [u8],
 ) -> Result<usize, Refusal>
     requires { AnswerReady (R.Relation.meaning relation.now) (S.Scheme.meaning scheme.now) (mask_of permutations.now layers.now free.now coins.now) asked (length work.old) (length out.old) }
-    ensures { Answered ((R.Relation.meaning relation.now).key_fault key.now) result (λ n. Wrote out.old (answer_written (answer-of (R.Relation.meaning relation.now) (S.Scheme.meaning scheme.now) key.now (mask_of permutations.now layers.now free.now coins.now) asked)) out.new n) (out.new ≡ out.old) }
+    ensures { Answered ((R.Relation.meaning relation.now).key_fault key.now) result (λ n. Wrote out.old (answer_written (answer_of (R.Relation.meaning relation.now) (S.Scheme.meaning scheme.now) key.now (mask_of permutations.now layers.now free.now coins.now) asked)) out.new n) (out.new ≡ out.old) }
 {
     let layer_len = relation.layer_len();
     let layer_count = relation.layer_count();

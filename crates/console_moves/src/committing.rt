@@ -176,7 +176,7 @@ fn commit_three<R: Relation, S: Scheme>(
     three: &mut [u8],
 ) -> Result<(), Refusal>
     requires well_formed { (WellFormed (R.Relation.meaning relation.now) (S.Scheme.meaning scheme.old).width (mask_of permutations.now layers.now free.now coins.now)) × ((Layers (R.Relation.meaning relation.now) masked.now) × (committed_size (R.Relation.meaning relation.now) ≤ (S.Scheme.meaning scheme.old).limit)) }
-    requires one_len { (length one.old ≡ (S.Scheme.meaning scheme.old).width) × ((length two.old ≡ (S.Scheme.meaning scheme.old).width) × (length three.old ≡ (S.Scheme.meaning scheme.old).width)) }
+    requires widths { (length one.old ≡ (S.Scheme.meaning scheme.old).width) × ((length two.old ≡ (S.Scheme.meaning scheme.old).width) × (length three.old ≡ (S.Scheme.meaning scheme.old).width)) }
     ensures outcome { MatchResult result (λ _. Made (commitments_masked (R.Relation.meaning relation.now) (S.Scheme.meaning scheme.old) (mask_of permutations.now layers.now free.now coins.now) masked.now) one.new two.new three.new × Fresh (S.Scheme.meaning scheme.old) (S.Scheme.state scheme.new)) (λ _. ⊥) }
     ensures kept { S.Scheme.meaning scheme.new ≡ S.Scheme.meaning scheme.old }
 {

@@ -1,4 +1,6 @@
 // The console's two moves without its lines: the commitments message of a mask, and the answer to a challenge.
+#![tactic(auto)]
+
 pub mod answering;
 mod coins;
 pub mod committing;

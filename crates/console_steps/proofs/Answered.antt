@@ -1,6 +1,6 @@
 -- No load's number is answered twice.
 use Rattle.std.proofs.Common.{◌≡◌, ℕ, ◌+◌, ◌<◌, ◌≤◌, ◌≢◌, ◌⊎◌, List, [], ◌∷◌, length, get_or, set, replicate, sym, refl, ap, ◌∙◌, subst, inl, inr, ⊎_elim, arith}
-use Rattle.std.specs.List.{AllByRecursion as All}
+use Rattle.std.specs.List.{AllByRecursion}
 use Rattle.std.proofs.lemmas.List.{length-replicate, get_or-set_same, get_or-set_other, get_or-replicate, get_or_past}
 use Rattle.std.proofs.lemmas.Bool.{cases_eq, cases_lt}
 use Rattle.relation.specs.Meaning.{RelationMeaning}
@@ -114,14 +114,14 @@ module _ {E : Type 0} (relation : RelationMeaning E) (scheme : SchemeMeaning) wh
             (carried_set s.lines line Free j count (omega (arith, v.four)) h);
       }
 
-  absent_more : (s t : ConsoleState) (e : Event) (rest : List Event) (n : ℕ) → Way relation scheme s t e → Spent s n → All (λ m. m ≢ n) (answered rest) → All (λ m. m ≢ n) (answered (e ∷ rest))
+  absent_more : (s t : ConsoleState) (e : Event) (rest : List Event) (n : ℕ) → Way relation scheme s t e → Spent s n → AllByRecursion (λ m. m ≢ n) (answered rest) → AllByRecursion (λ m. m ≢ n) (answered (e ∷ rest))
   absent_more s t e rest n (stays m k) d h = h
   absent_more s t e rest n (brings line mask k) d h = h
   absent_more s t e rest n (commits_to line count k) d h = h
   absent_more s t e rest n (replies line count challenge k) d h = ((λ (q : count ≡ n). d.gone line (subst (λ l. Carries l n) (sym k.carried) q)), h)
   absent_more s t e rest n (clears slip k) d h = h
 
-  once_more : (s t : ConsoleState) (e : Event) (rest : List Event) → Way relation scheme s t e → Valid s → ((n : ℕ) → Spent t n → All (λ m. m ≢ n) (answered rest))
+  once_more : (s t : ConsoleState) (e : Event) (rest : List Event) → Way relation scheme s t e → Valid s → ((n : ℕ) → Spent t n → AllByRecursion (λ m. m ≢ n) (answered rest))
       → Once (answered rest) → Once (answered (e ∷ rest))
   once_more s t e rest (stays m k) v absent h = h
   once_more s t e rest (brings line mask k) v absent h = h
@@ -131,7 +131,7 @@ module _ {E : Type 0} (relation : RelationMeaning E) (scheme : SchemeMeaning) wh
   once_more s t e rest (clears slip k) v absent h = h
 
   module _ (laws : RelationLaws relation) where
-    absent : (s : ConsoleState) (calls : List (Call E)) (n : ℕ) → Valid s → Spent s n → All (λ m. m ≢ n) (answered (events relation scheme s calls))
+    absent : (s : ConsoleState) (calls : List (Call E)) (n : ℕ) → Valid s → Spent s n → AllByRecursion (λ m. m ≢ n) (answered (events relation scheme s calls))
     absent s [] n v d = tt
     absent s (call ∷ calls) n v d =
         let t = after relation scheme s call in

@@ -1,6 +1,6 @@
 -- The laws of a console that was just made.
 use Rattle.std.proofs.Common.{◌≡◌, ℕ, ◌≢◌, List, [], ◌∷◌, None, refl, arith}
-use Rattle.std.specs.List.{AllByRecursion as All}
+use Rattle.std.specs.List.{AllByRecursion}
 use Rattle.relation.specs.Meaning.{RelationMeaning}
 use Rattle.relation.specs.Laws.{RelationLaws}
 use Rattle.commitment.specs.Meaning.{SchemeMeaning}
@@ -21,7 +21,7 @@ module _ {E : Type 0} (relation : RelationMeaning E) (scheme : SchemeMeaning) wh
   not_56_told s t e (clears slip k) none q = let z : ◌≡◌ {A = ℕ} 0 1 = cc in omega arith
 
   module _ (laws : RelationLaws relation) where
-    none_told : (s : ConsoleState) (calls : List (Call E)) → limit_fault relation scheme ≡ None → All (λ e. e ≢ refused 56) (events relation scheme s calls)
+    none_told : (s : ConsoleState) (calls : List (Call E)) → limit_fault relation scheme ≡ None → AllByRecursion (λ e. e ≢ refused 56) (events relation scheme s calls)
     none_told s [] none = tt
     none_told s (call ∷ calls) none =
         let t = after relation scheme s call in

@@ -1,6 +1,6 @@
 -- What holds over every list of calls of a console that was just made.
 use Rattle.std.specs.Prelude.{◌≡◌, ℕ, ◌<◌, ◌≢◌, ◌⊎◌, List, [], ◌∷◌, None}
-use Rattle.std.specs.List.{AllByRecursion as All}
+use Rattle.std.specs.List.{AllByRecursion}
 use Rattle.vectors.specs.Over.{zeros}
 use Rattle.relation.specs.Meaning.{RelationMeaning}
 use Rattle.commitment.specs.Meaning.{SchemeMeaning}
@@ -12,7 +12,7 @@ use Rattle.console_steps.specs.Runs.{Call, Event, refused, History, untouched, h
 -- no number stands in the list twice
 abbrev pub Once : List ℕ → Type 0
 Once [] = Unit {0}
-Once (x ∷ xs) = All (λ y. y ≢ x) xs × Once xs
+Once (x ∷ xs) = AllByRecursion (λ y. y ≢ x) xs × Once xs
 
 module _ {E : Type 0} (relation : RelationMeaning E) (scheme : SchemeMeaning) where
   -- what a line and its memory are by its history; `start` is the console just made
@@ -36,4 +36,4 @@ module _ {E : Type 0} (relation : RelationMeaning E) (scheme : SchemeMeaning) wh
         → Holds (new_console numbers coins) (run relation scheme (new_console numbers coins) calls) line (history line untouched (events relation scheme (new_console numbers coins) calls))
     -- where the scheme's limit suffices, as it does for every console that was made, no call is refused by 56
     pub limit_never : (numbers coins : List ℕ) (calls : List (Call E)) → limit_fault relation scheme ≡ None
-        → All (λ e. e ≢ refused 56) (events relation scheme (new_console numbers coins) calls)
+        → AllByRecursion (λ e. e ≢ refused 56) (events relation scheme (new_console numbers coins) calls)

@@ -7,7 +7,7 @@ ghost use Rattle.moves.specs.Sizes.{limit_fault, work_fault};
 ghost use Rattle.exchange_moves.specs.Verdicts.{Leaves, YesTo};
 ghost use Rattle.exchange_steps.specs.declared.lines.LineState.TheVariants.{Free};
 ghost use Rattle.exchange_steps.specs.State.{exchange_state, commitments_in, with_entry};
-ghost use Rattle.exchange_steps.specs.Steps.{thrown as thrown-by, log_full, open_step, dice_step, judge_step, clear_step};
+ghost use Rattle.exchange_steps.specs.Steps.{thrown as thrown_by, log_full, open_step, dice_step, judge_step, clear_step};
 ghost use Rattle.exchange.specs.Told.{told_judge, Ends, IfJudged, IfChallenged, Ready, RowJudged};
 
 use commitment::scheme::Scheme;
@@ -52,7 +52,7 @@ fn write_row(row: &mut [u8], first: &[u8], second: &[u8], third: &[u8])
 }
 
 fn thrown(byte: u8) -> Challenge
-    ensures { result ≡ thrown-by byte }
+    ensures { result ≡ thrown_by byte }
 {
     match byte % 3 {
         0 => Challenge::One,

@@ -7,7 +7,7 @@ use messages::challenge::Challenge;
 use refusals::refusal::Refusal;
 use relation::Relation;
 use schemes::hash::Hash;
-use std::test::*;
+use std::process::Abort;
 
 #[derive(Drop)]
 pub struct Desk<R> {
@@ -177,11 +177,10 @@ impl<R: Relation + Drop> Desk<R> {
     }
 
     // Makes the calls, and holds the answers to those given.
-    pub fn check_calls(&mut self, calls: &[(Call, (u8, usize))]) -> Result<(), Fail> {
+    pub fn check_calls(&mut self, rt: &impl Abort, calls: &[(Call, (u8, usize))]) {
         for step in calls {
             let (call, answer) = *step;
-            assert_eq!(self.answer(call), answer);
+            assert_eq!(rt; self.answer(call), answer);
         }
-        Ok(())
     }
 }

@@ -18,11 +18,14 @@ fn check_causes<R: Relation + Drop>(
     let mut desk = Desk::new(relation, key, &short_mask())?;
     for step in causes {
         let (change, cause) = *step;
-        desk.check_calls(&[
-            (Call::Open(0, Change::Nothing), (0, 0)),
-            (Call::Dice(0, byte), (byte % 3 + 1, 0)),
-            (Call::Judge(0, number, change), cause),
-        ])?;
+        desk.check_calls(
+            rt,
+            &[
+                (Call::Open(0, Change::Nothing), (0, 0)),
+                (Call::Dice(0, byte), (byte % 3 + 1, 0)),
+                (Call::Judge(0, number, change), cause),
+            ],
+        );
     }
     assert!(rt; desk.nothing_logged());
     Ok(())
@@ -120,17 +123,20 @@ fn two_yeses<R: Relation + Drop>(
     key: &[R::Entry],
 ) -> Result<(), Fail> {
     let mut desk = Desk::new(relation, key, &short_mask())?;
-    desk.check_calls(&[
-        (Call::Open(1, Change::Nothing), (0, 0)),
-        (Call::Dice(1, 3), (1, 0)),
-        (Call::Open(3, Change::Nothing), (0, 0)),
-        (Call::Dice(3, 4), (2, 0)),
-        (Call::Judge(1, 1, Change::Nothing), (0, 0)),
-        (Call::Open(1, Change::Turned(3, 1)), (0, 0)),
-        (Call::Dice(1, 5), (3, 0)),
-        (Call::Judge(1, 3, Change::Nothing), (88, 1)),
-        (Call::Judge(3, 2, Change::Nothing), (0, 0)),
-    ])?;
+    desk.check_calls(
+        rt,
+        &[
+            (Call::Open(1, Change::Nothing), (0, 0)),
+            (Call::Dice(1, 3), (1, 0)),
+            (Call::Open(3, Change::Nothing), (0, 0)),
+            (Call::Dice(3, 4), (2, 0)),
+            (Call::Judge(1, 1, Change::Nothing), (0, 0)),
+            (Call::Open(1, Change::Turned(3, 1)), (0, 0)),
+            (Call::Dice(1, 5), (3, 0)),
+            (Call::Judge(1, 3, Change::Nothing), (88, 1)),
+            (Call::Judge(3, 2, Change::Nothing), (0, 0)),
+        ],
+    );
     check_log(rt, &desk)
 }
 
@@ -141,7 +147,7 @@ fn check_log<R: Relation + Drop>(rt: &impl Abort, desk: &Desk<R>) -> Result<(), 
     let two_logged = &desk.bytes[148..299];
     let behind = &desk.bytes[299..460];
     assert!(rt; one_logged == &one.bytes[0..148] && two_logged == &two.bytes[0..151]);
-    assert!(rt; behind == &[9; 161]);
+    assert!(rt; behind == [9; 161].as_slice());
     let [first, second, unused] = desk.records;
     assert_eq!(rt;
         [first.start, first.len, second.start, second.len],
@@ -169,7 +175,7 @@ fn is_row(row: &[u8; 384], open: &Message) -> bool {
     one == &message[3..35]
         && two == &message[38..70]
         && three == &message[73..105]
-        && behind == &[0; 288]
+        && behind == [0; 288].as_slice()
 }
 
 #[test]

@@ -1,4 +1,6 @@
 // The exchange on examples: dice by its definition, and run, each refusal, each cause of a no, and the log.
+#![tactic(auto)]
+
 ghost use Rattle.std.specs.Prelude.{ℕ, List};
 ghost use Rattle.exchange_examples.specs.Examples.{Examples};
 

@@ -14,7 +14,7 @@ fn check_calls<R: Relation + Drop>(
     logged: bool,
 ) -> Result<(), Fail> {
     let mut desk = Desk::new(relation, key, &short_mask())?;
-    desk.check_calls(calls)?;
+    desk.check_calls(rt, calls);
     assert_eq!(rt; desk.nothing_logged(), !logged);
     Ok(())
 }

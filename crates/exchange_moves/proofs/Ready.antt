@@ -1,6 +1,6 @@
 -- What follows from reading an answer and from the checks on it that need no commitment.
 use Rattle.std.proofs.Common.{◌≡◌, ℕ, ◌+◌, ◌*◌, ◌<◌, List, length, get_or, take, drop, Some, None, Option, sym, refl, ap, ◌∙◌, subst, ap₂, arith}
-use Rattle.std.specs.List.{AllByRecursion as All}
+use Rattle.std.specs.List.{AllByRecursion}
 use Rattle.std.proofs.ByRecursion.{All-from_get_or, All-take, All-drop}
 use Rattle.refusals.specs.declared.cause.Cause.{Cause}
 use Rattle.refusals.specs.declared.cause.Cause.TheVariants.{ResidueNotBelowModulus, NoPermutation}
@@ -44,15 +44,15 @@ permutations_in : (N K : ℕ) (content : List ℕ) → length content ≡ 2 * (K
 permutations_in N K content e h = permutations_from_first_failing N K (words content) (length-words (K * N) content e) h
 
 -- a content is the writing of its numbers, since a message is a list of bytes
-bytes_in : (n size at : ℕ) (message content : List ℕ) → All (λ b. b < 256) message → content ≡ take size (drop at message) → length content ≡ 2 * n → bytes (words content) ≡ content
+bytes_in : (n size at : ℕ) (message content : List ℕ) → AllByRecursion (λ b. b < 256) message → content ≡ take size (drop at message) → length content ≡ 2 * n → bytes (words content) ≡ content
 bytes_in n size at message content low e l =
-    bytes-words n content l (subst (All (λ b. b < 256)) (sym e) (All-take (λ b. b < 256) size (drop at message) (All-drop (λ b. b < 256) at message low)))
+    bytes-words n content l (subst (AllByRecursion (λ b. b < 256)) (sym e) (All-take (λ b. b < 256) size (drop at message) (All-drop (λ b. b < 256) at message low)))
 
 module _ {E : Type 0} (relation : RelationMeaning E) (scheme : SchemeMeaning) (message : List ℕ) (low : (i : ℕ) → get_or message i 0 < 256) where
   abbrev size : ℕ
   size = relation.layer_count * relation.layer_len
 
-  message-bytes : All (λ b. b < 256) message
+  message-bytes : AllByRecursion (λ b. b < 256) message
   message-bytes = All-from_get_or (λ b. b < 256) message 0 (λ i _. low i)
 
   abbrev Read : Answer → Type 0

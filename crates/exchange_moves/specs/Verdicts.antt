@@ -1,6 +1,6 @@
 -- What judging an answer promises.
 use Rattle.std.specs.Prelude.{◌≡◌, ℕ, ◌<◌, ◌↔◌, List, Some, None, Option}
-use Rattle.std.specs.List.{AllByRecursion as All}
+use Rattle.std.specs.List.{AllByRecursion}
 use Rattle.refusals.specs.declared.cause.Cause.{Cause}
 use Rattle.refusals.specs.declared.cause.Cause.TheVariants.{Reader, ResidueNotBelowModulus, NoPermutation, ShapeMissing, NotOpened}
 use Rattle.relation.specs.Meaning.{RelationMeaning}
@@ -33,4 +33,4 @@ Proves relation scheme c challenge message = (said : Said) × (said_to said ≡ 
 
 -- yes exactly to these; a message is a list of bytes
 abbrev pub YesTo : {E : Type 0} → RelationMeaning E → SchemeMeaning → Triple → Challenge → List ℕ → Option Cause → Type 0
-YesTo relation scheme c challenge message verdict = All (λ b. b < 256) message → (verdict ≡ None) ↔ Proves relation scheme c challenge message
+YesTo relation scheme c challenge message verdict = AllByRecursion (λ b. b < 256) message → (verdict ≡ None) ↔ Proves relation scheme c challenge message

@@ -25,8 +25,8 @@ pub fn judge_answer<'a, R: Relation, S: Scheme>(
     answer: Answer<'a>,
     work: &mut [u16],
 ) -> Result<Option<Cause>, Refusal>
-    requires answer_ready { AnswerReady (R.Relation.meaning relation.now) (S.Scheme.meaning scheme.old).width answer }
-    requires relation_bound { (committed_size (R.Relation.meaning relation.now) ≤ (S.Scheme.meaning scheme.old).limit) × (length work.old ≡ work_size (R.Relation.meaning relation.now)) }
+    requires ready { AnswerReady (R.Relation.meaning relation.now) (S.Scheme.meaning scheme.old).width answer }
+    requires room { (committed_size (R.Relation.meaning relation.now) ≤ (S.Scheme.meaning scheme.old).limit) × (length work.old ≡ work_size (R.Relation.meaning relation.now)) }
     ensures outcome { MatchResult result (λ verdict. (verdict ≡ later_cause (R.Relation.meaning relation.now) (S.Scheme.meaning scheme.old) (triple one.now two.now three.now) (said_by answer.entry)) × Leaves verdict (Fresh (S.Scheme.meaning scheme.old) (S.Scheme.state scheme.new)) (scheme.new ≡ scheme.old)) (λ _. ⊥) }
     ensures kept { S.Scheme.meaning scheme.new ≡ S.Scheme.meaning scheme.old }
 {

@@ -26,8 +26,8 @@ pub fn judge_first<R: Relation, S: Scheme>(
     mask: Field,
     work: &mut [u16],
 ) -> Result<Option<Cause>, Refusal>
-    requires first_ready { FirstReady (R.Relation.meaning relation.now) (S.Scheme.meaning scheme.old).width key.content.now mask.content.now second.coins.now third.coins.now }
-    requires relation_bound { (committed_size (R.Relation.meaning relation.now) ≤ (S.Scheme.meaning scheme.old).limit) × (length work.old ≡ work_size (R.Relation.meaning relation.now)) }
+    requires ready { FirstReady (R.Relation.meaning relation.now) (S.Scheme.meaning scheme.old).width key.content.now mask.content.now second.coins.now third.coins.now }
+    requires room { (committed_size (R.Relation.meaning relation.now) ≤ (S.Scheme.meaning scheme.old).limit) × (length work.old ≡ work_size (R.Relation.meaning relation.now)) }
     ensures outcome { MatchResult result (λ verdict. (verdict ≡ first_cause (R.Relation.meaning relation.now) (S.Scheme.meaning scheme.old) second.entry third.entry (words key.entry.content.now) (words mask.entry.content.now)) × Leaves verdict (Fresh (S.Scheme.meaning scheme.old) (S.Scheme.state scheme.new)) (scheme.new ≡ scheme.old)) (λ _. ⊥) }
     ensures kept { S.Scheme.meaning scheme.new ≡ S.Scheme.meaning scheme.old }
 {

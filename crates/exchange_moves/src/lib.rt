@@ -1,4 +1,6 @@
 // The exchange's judgement without its lines and its log.
+#![tactic(auto)]
+
 mod answers;
 mod first;
 pub mod judging;

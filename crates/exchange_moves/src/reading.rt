@@ -1,7 +1,7 @@
 // Reading an answer, and the checks on it that need no commitment.
 ghost use Rattle.std.specs.Prelude.{◌≡◌, Some, MatchResult};
 ghost use Rattle.moves.specs.Moves.{Triple};
-ghost use Rattle.moves.specs.Causes.{cause as cause-of-no, sizes as message-sizes};
+ghost use Rattle.moves.specs.Causes.{cause as cause_of_no, sizes as message_sizes};
 ghost use Rattle.exchange_moves.specs.Stages.{Checked, Early};
 
 use answer_checks::answer_cause;
@@ -14,7 +14,7 @@ use relation::Relation;
 
 // The lengths of the contents of an answer.
 fn content_sizes<R: Relation, S: Scheme>(relation: &R, scheme: &S) -> Sizes
-    ensures { result ≡ message-sizes (R.Relation.meaning relation.now) (S.Scheme.meaning scheme.now) }
+    ensures { result ≡ message_sizes (R.Relation.meaning relation.now) (S.Scheme.meaning scheme.now) }
 {
     Sizes {
         layers: 2 * (relation.layer_count() * relation.layer_len()),
@@ -33,7 +33,7 @@ pub fn read_checked<'a, R: Relation, S: Scheme>(
 ) -> Result<Answer<'a>, Cause>
     ensures { MatchResult result
         (λ answer. Checked (R.Relation.meaning relation.now) (S.Scheme.meaning scheme.now) challenge message.now answer)
-        (λ cause. Early cause × ((c : Triple) → cause-of-no (R.Relation.meaning relation.now) (S.Scheme.meaning scheme.now) c challenge message.now ≡ Some cause)) }
+        (λ cause. Early cause × ((c : Triple) → cause_of_no (R.Relation.meaning relation.now) (S.Scheme.meaning scheme.now) c challenge message.now ≡ Some cause)) }
 {
     let answer = match read_answer(message, challenge, content_sizes(relation, scheme)) {
         Ok(answer) => answer,

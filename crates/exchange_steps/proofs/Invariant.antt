@@ -1,6 +1,6 @@
 -- What every call keeps, what it makes of a line, and what it adds to the log.
 use Rattle.std.proofs.Common.{◌≡◌, ℕ, ◌+◌, ◌<◌, ◌≤◌, false, cond, eqb, ltb, leb, ◌≢◌, List, [], ◌∷◌, ◌++◌, map, length, get_or, take, drop, set, sym, refl, ap, ◌∙◌, subst, ⊎_elim, arith}
-use Rattle.std.specs.List.{range_with_len, AllByRecursion as All}
+use Rattle.std.specs.List.{range_with_len, AllByRecursion}
 use Rattle.std.proofs.lemmas.List.{length-set, get_or-set_same, get_or-set_other, append-nil}
 use Rattle.std.proofs.lemmas.List.FromFn.{map-range_with_len_more}
 use Rattle.std.proofs.lemmas.Bool.{cases_eq, eq-eqb, ne_eqb, or_parts, leb-false, ltb-false}
@@ -223,7 +223,7 @@ module _ {E : Type 0} (relation : RelationMeaning E) (scheme : SchemeMeaning) wh
   told_after call s t e (clearing l within) before holds = refl
 
   pub accepted_after : RelationLaws relation → SchemeLaws scheme → (call : Call) (s t : ExchangeState) (e : Event) (w : Way relation scheme call s t e) → Bytes call
-      → All (λ entry. Proves relation scheme entry.commitments entry.challenge entry.message) (added call s t e w)
+      → AllByRecursion (λ entry. Proves relation scheme entry.commitments entry.challenge entry.message) (added call s t e w)
   accepted_after laws scheme_laws call s t e (refuses refusal r) low = tt
   accepted_after laws scheme_laws call s t e (opening l message within r) low = tt
   accepted_after laws scheme_laws call s t e (throwing l challenge within o) low = tt

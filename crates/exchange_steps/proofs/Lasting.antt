@@ -1,6 +1,6 @@
 -- The laws over every list of calls.
 use Rattle.std.proofs.Common.{◌≡◌, ℕ, ◌+◌, ◌%◌, ◌<◌, Bool, true, false, cond, eqb, ltb, ◌≢◌, List, [], ◌∷◌, ◌++◌, None, Err, sym, refl, ap, ◌∙◌, subst, not-suc-le-zero, mod-lt, arith}
-use Rattle.std.specs.List.{AllByRecursion as All}
+use Rattle.std.specs.List.{AllByRecursion}
 use Rattle.std.proofs.ByRecursion.{All-append}
 use Rattle.std.proofs.lemmas.List.{append-nil, append_assoc, get_or-replicate}
 use Rattle.std.proofs.lemmas.Bool.{cond_both, eqb-true}
@@ -86,14 +86,14 @@ module _ {E : Type 0} (relation : RelationMeaning E) (scheme : SchemeMeaning) wh
   abbrev Accepted : Entry → Type 0
   Accepted e = Proves relation scheme e.commitments e.challenge e.message
 
-  accepted_run : RelationLaws relation → SchemeLaws scheme → (s : ExchangeState) (calls : List Call) → Sound s → All Bytes calls → All Accepted (log_in relation scheme s)
-      → All Accepted (log_in relation scheme (run relation scheme s calls))
+  accepted_run : RelationLaws relation → SchemeLaws scheme → (s : ExchangeState) (calls : List Call) → Sound s → AllByRecursion Bytes calls → AllByRecursion Accepted (log_in relation scheme s)
+      → AllByRecursion Accepted (log_in relation scheme (run relation scheme s calls))
   accepted_run laws scheme_laws s [] sound low all = all
   accepted_run laws scheme_laws s (call ∷ calls) sound low all =
       let e : Event = event relation scheme s call in
       let w = way relation scheme s call in
       accepted_run laws scheme_laws (moved s call) calls (sound_step s call sound) low.1
-      (subst (All Accepted) (sym (log_after relation scheme call s (moved s call) e w sound))
+      (subst (AllByRecursion Accepted) (sym (log_after relation scheme call s (moved s call) e w sound))
       (All-append Accepted (log_in relation scheme s) (added relation scheme call s (moved s call) e w) all (accepted_after relation scheme laws scheme_laws call s (moved s call) e w low.0)))
 
   limit_after : (call : Call) (s t : ExchangeState) (e : Event) → Way relation scheme call s t e → limit_fault relation scheme ≡ None → e ≢ refused SchemeLimit
@@ -104,7 +104,7 @@ module _ {E : Type 0} (relation : RelationMeaning E) (scheme : SchemeMeaning) wh
   limit_after call s t e (no l why within) h d = impossible (cc)
   limit_after call s t e (clearing l within) h d = impossible (cc)
 
-  limit-run : (s : ExchangeState) (calls : List Call) → limit_fault relation scheme ≡ None → All (λ e. e ≢ refused SchemeLimit) (events relation scheme s calls)
+  limit-run : (s : ExchangeState) (calls : List Call) → limit_fault relation scheme ≡ None → AllByRecursion (λ e. e ≢ refused SchemeLimit) (events relation scheme s calls)
   limit-run s [] h = tt
   limit-run s (call ∷ calls) h =
       (limit_after call s (moved s call) (event relation scheme s call) (way relation scheme s call) h, limit-run (moved s call) calls h)

@@ -1,6 +1,6 @@
 -- The ways that a call can go: what it leaves and what it tells.
 use Rattle.std.proofs.Common.{◌≡◌, ℕ, ◌<◌, Bool, true, false, cond, eqb, ltb, ◌≢◌, List, ◌++◌, Some, None, Ok, Err, Option, Result, refl, arith}
-use Rattle.std.specs.List.{AllByRecursion as All}
+use Rattle.std.specs.List.{AllByRecursion}
 use Rattle.std.proofs.lemmas.Bool.{ltb-false}
 use Rattle.refusals.specs.declared.fault.Fault.{Fault}
 use Rattle.refusals.specs.declared.cause.Cause.{Cause}
@@ -31,7 +31,7 @@ module _ {E : Type 0} (relation : RelationMeaning E) (scheme : SchemeMeaning) wh
         (opens line (read_triple scheme.width message))
     throwing : (line : ℕ) (challenge : Challenge) → line < 4 → line_at s line ≡ Opened → Way call s (with_line s line (Challenged challenge)) (throws line challenge)
     yes : (line : ℕ) (challenge : Challenge) (message : List ℕ) → line < 4 → line_at s line ≡ Challenged challenge → log_full s message ≡ false
-        → cause relation scheme (commitments_in scheme.width (row_at s line)) challenge message ≡ None → (Bytes call → All (λ b. b < 256) message)
+        → cause relation scheme (commitments_in scheme.width (row_at s line)) challenge message ≡ None → (Bytes call → AllByRecursion (λ b. b < 256) message)
         → Way call s (with_entry (with_line s line Free) (row_at s line) challenge message) (says_yes line message)
     no : (line : ℕ) (why : Cause) → line < 4 → Way call s (with_line s line Free) (says_no line why)
     clearing : (line : ℕ) → line < 4 → Way call s (with_line s line Free) (clears line)
@@ -71,7 +71,7 @@ module _ {E : Type 0} (relation : RelationMeaning E) (scheme : SchemeMeaning) wh
     clear_way (Challenged challenge) line l = clearing line l
 
     judged_way : (why : Option Cause) (line : ℕ) (challenge : Challenge) (message : List ℕ) → line < 4 → line_at s line ≡ Challenged challenge → log_full s message ≡ false
-        → cause relation scheme (commitments_in scheme.width (row_at s line)) challenge message ≡ why → (Bytes call → All (λ b. b < 256) message)
+        → cause relation scheme (commitments_in scheme.width (row_at s line)) challenge message ≡ why → (Bytes call → AllByRecursion (λ b. b < 256) message)
         → Goes (verdict line message) (judged relation scheme why s line challenge message)
     judged_way None line challenge message l e f c b = yes line challenge message l e f c b
     judged_way (Some why) line challenge message l e f c b = no line why l
@@ -80,7 +80,7 @@ module _ {E : Type 0} (relation : RelationMeaning E) (scheme : SchemeMeaning) wh
     within-limit true h e = impossible (cc)
     within-limit false h e = impossible (cc)
 
-    judge_challenged_way : (line : ℕ) (challenge : Challenge) (message : List ℕ) (work : ℕ) → line < 4 → line_at s line ≡ Challenged challenge → (Bytes call → All (λ b. b < 256) message)
+    judge_challenged_way : (line : ℕ) (challenge : Challenge) (message : List ℕ) (work : ℕ) → line < 4 → line_at s line ≡ Challenged challenge → (Bytes call → AllByRecursion (λ b. b < 256) message)
         → Goes (verdict line message) (judge_challenged relation scheme s line challenge message work)
     judge_challenged_way line challenge message work l e b =
         let why : Option Cause = cause relation scheme (commitments_in scheme.width (row_at s line)) challenge message in
@@ -93,7 +93,7 @@ module _ {E : Type 0} (relation : RelationMeaning E) (scheme : SchemeMeaning) wh
         (λ _. by_cond (verdict line message) (ltb work (work_size relation)) (Err RoomShort, s) says (λ _. refuses RoomShort (λ _ e. impossible (cc)))
         (λ _. judged_way why line challenge message l e f refl b)))
 
-    judge_way : (state : LineState) (line : ℕ) (message : List ℕ) (work : ℕ) → line < 4 → line_at s line ≡ state → (Bytes call → All (λ b. b < 256) message)
+    judge_way : (state : LineState) (line : ℕ) (message : List ℕ) (work : ℕ) → line < 4 → line_at s line ≡ state → (Bytes call → AllByRecursion (λ b. b < 256) message)
         → Goes (verdict line message) (judge_at relation scheme state s line message work)
     judge_way Free line message work l e b = refuses LineNotChallenged (λ _ e. impossible (cc))
     judge_way Opened line message work l e b = refuses LineNotChallenged (λ _ e. impossible (cc))

@@ -1,6 +1,6 @@
 -- What holds over every list of calls of an exchange that was just made.
 use Rattle.std.specs.Prelude.{◌≡◌, ℕ, ◌+◌, ◌%◌, ◌<◌, ◌≢◌, List, [], ◌∷◌, ◌++◌, map, length, None}
-use Rattle.std.specs.List.{range_with_len, AllByRecursion as All}
+use Rattle.std.specs.List.{range_with_len, AllByRecursion}
 use Rattle.refusals.specs.declared.refusal.Refusal.TheVariants.{SchemeLimit}
 use Rattle.relation.specs.Meaning.{RelationMeaning}
 use Rattle.commitment.specs.Meaning.{SchemeMeaning}
@@ -32,8 +32,8 @@ module _ {E : Type 0} (relation : RelationMeaning E) (scheme : SchemeMeaning) wh
     pub log_given : (records : List Record) (bytes : List ℕ) (calls : List Call)
         → log_in (run relation scheme (new_exchange records bytes) calls) ≡ given (λ _. idle) (events relation scheme (new_exchange records bytes) calls)
     -- the answer of each entry is accepted for its commitments and its challenge
-    pub log_accepted : (records : List Record) (bytes : List ℕ) (calls : List Call) → All Bytes calls
-        → All (λ e. Proves relation scheme e.commitments e.challenge e.message) (log_in (run relation scheme (new_exchange records bytes) calls))
+    pub log_accepted : (records : List Record) (bytes : List ℕ) (calls : List Call) → AllByRecursion Bytes calls
+        → AllByRecursion (λ e. Proves relation scheme e.commitments e.challenge e.message) (log_in (run relation scheme (new_exchange records bytes) calls))
     -- entries never change: later calls only add to the log
     pub log_kept : (records : List Record) (bytes : List ℕ) (calls more : List Call)
         → (added : List Entry) × (log_in (run relation scheme (new_exchange records bytes) (calls ++ more)) ≡ log_in (run relation scheme (new_exchange records bytes) calls) ++ added)
@@ -41,4 +41,4 @@ module _ {E : Type 0} (relation : RelationMeaning E) (scheme : SchemeMeaning) wh
     pub dice_number : (s : ExchangeState) (line byte : ℕ) (challenge : Challenge) → event relation scheme s (dice line byte) ≡ throws line challenge → challenge_number challenge ≡ byte % 3 + 1
     -- where the scheme's limit suffices, as it does for every exchange that was made, no call is refused by 56
     pub limit_never : (records : List Record) (bytes : List ℕ) (calls : List Call) → limit_fault relation scheme ≡ None
-        → All (λ e. e ≢ refused SchemeLimit) (events relation scheme (new_exchange records bytes) calls)
+        → AllByRecursion (λ e. e ≢ refused SchemeLimit) (events relation scheme (new_exchange records bytes) calls)

@@ -1,6 +1,6 @@
 -- Lists of exchange calls, and what they told.
 use Rattle.std.specs.Prelude.{ℕ, ◌<◌, cond, List, [], ◌∷◌, ◌++◌, Some, None, Ok, Err, Option, Result, ◌==◌}
-use Rattle.std.specs.List.{AllByRecursion as All}
+use Rattle.std.specs.List.{AllByRecursion}
 use Rattle.refusals.specs.declared.cause.Cause.{Cause}
 use Rattle.refusals.specs.declared.refusal.Refusal.{Refusal}
 use Rattle.relation.specs.Meaning.{RelationMeaning}
@@ -100,7 +100,7 @@ given before (event ∷ events) = entry_by before event ++ given (λ line. next 
 
 -- the messages are bytes
 abbrev pub Bytes : Call → Type 0
-Bytes (open_line line message) = All (λ b. b < 256) message
+Bytes (open_line line message) = AllByRecursion (λ b. b < 256) message
 Bytes (dice line byte) = byte < 256
-Bytes (judge line message work) = All (λ b. b < 256) message
+Bytes (judge line message work) = AllByRecursion (λ b. b < 256) message
 Bytes (clear line) = Unit {0}

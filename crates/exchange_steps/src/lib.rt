@@ -1,4 +1,6 @@
 // What the exchange's calls do, as definitions, and what holds over every list of calls.
+#![tactic(auto)]
+
 pub mod laws;
 pub mod lines;
 pub mod log;

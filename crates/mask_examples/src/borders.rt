@@ -89,7 +89,7 @@ fn most_layers_are_drawn(rt: HostRuntime) -> Result<(), Fail> {
         &mut coins,
     )?;
     assert!(rt; 384 <= read && read <= 50000);
-    assert!(rt; coins == &random[read - 384..read]);
+    assert!(rt; coins.as_slice() == &random[read - 384..read]);
     assert_eq!(rt; checking(&relation, &p, &r, &[], &coins), 0);
     p[767] = p[0];
     assert_eq!(rt; checking(&relation, &p, &r, &[], &coins), 33);
@@ -135,7 +135,7 @@ fn longest_free_part_is_drawn(rt: HostRuntime) -> Result<(), Fail> {
     for i in 0..256 {
         assert_eq!(rt; free[i], random[2 * i + 3] as u16 % 2);
     }
-    assert!(rt; coins == &random[514..898]);
+    assert!(rt; coins.as_slice() == &random[514..898]);
     assert_eq!(rt; checking(&relation, &p, &r, &free, &coins), 0);
     free[255] = 2;
     assert_eq!(rt; checking(&relation, &p, &r, &free, &coins), 33);

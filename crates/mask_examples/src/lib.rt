@@ -1,4 +1,6 @@
 // Worked examples of drawing: by the definitions, and run.
+#![tactic(auto)]
+
 ghost use Rattle.mask_examples.specs.Examples.{Examples};
 
 // The examples are what the definitions of drawing give.

@@ -1,4 +1,6 @@
 // Masks: drawing one from random bytes, and checking one.
+#![tactic(auto)]
+
 pub mod check;
 pub mod draw;
 mod lengths;

@@ -130,9 +130,9 @@ fn commitments_of_width_128(rt: HostRuntime) -> Result<(), Fail> {
     );
     let read = read_commitments(&message, 128)?;
     assert!(rt;
-        read.first.content == &[7; 128]
-            && read.second.content == &[8; 128]
-            && read.third.content == &[9; 128]
+        read.first.content == [7; 128].as_slice()
+            && read.second.content == [8; 128].as_slice()
+            && read.third.content == [9; 128].as_slice()
     );
     assert_eq!(rt;
         [read.first.offset, read.second.offset, read.third.offset],

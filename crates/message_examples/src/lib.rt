@@ -1,4 +1,5 @@
 // Messages run on examples: written, read back, and found wrong at known places.
+#![tactic(auto)]
 
 #[cfg(test)]
 mod borders;
@@ -50,9 +51,9 @@ mod tests {
         assert_eq!(rt; out[105], 9);
         let read = read_commitments(&out[0..105], 32)?;
         assert!(rt;
-            read.first.content == &[1; 32]
-                && read.second.content == &[2; 32]
-                && read.third.content == &[3; 32]
+            read.first.content == [1; 32].as_slice()
+                && read.second.content == [2; 32].as_slice()
+                && read.third.content == [3; 32].as_slice()
         );
         assert_eq!(rt;
             [read.first.offset, read.second.offset, read.third.offset],
@@ -105,8 +106,8 @@ mod tests {
             return Err(Fail::new("another answer"));
         };
         assert!(rt;
-            permuted_key.content == &[0, 6, 0, 5, 0, 3, 0, 4]
-                && permuted_mask.content == &[0, 2, 0, 1, 0, 3, 1, 2]
+            permuted_key.content == [0, 6, 0, 5, 0, 3, 0, 4].as_slice()
+                && permuted_mask.content == [0, 2, 0, 1, 0, 3, 1, 2].as_slice()
         );
         assert_eq!(rt;
             [

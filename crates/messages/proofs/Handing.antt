@@ -1,6 +1,6 @@
 -- What follows from the promise of a reader: the lengths of the contents, and that the fields lie within the message.
 use Rattle.std.proofs.Common.{◌≡◌, ℕ, ◌+◌, ◌≤◌, List, [], ◌∷◌, map, length, drop, None, ap, ◌∙◌, arith}
-use Rattle.std.specs.List.{AllByRecursion as All}
+use Rattle.std.specs.List.{AllByRecursion}
 use Rattle.std.proofs.lemmas.List.{length-drop, length-take-le}
 use Rattle.messages.specs.declared.fields.Field.{Field}
 use Rattle.messages.specs.Reading.{Slot, field_fault, reading_fault, contents, offsets}
@@ -16,7 +16,7 @@ handed_sized slots message fs h = ap (map (λ part. length part)) h.contents ∙
 abbrev Within : List ℕ → Field → Type 0
 Within message f = f.offset + 3 + length f.content.now ≤ length message
 
-fields_within : (slots : List Slot) (at : ℕ) (message : List ℕ) (fs : List Field) → reading_fault slots at message ≡ None → field_contents fs ≡ contents slots at message → field_offsets fs ≡ offsets slots at → All (Within message) fs
+fields_within : (slots : List Slot) (at : ℕ) (message : List ℕ) (fs : List Field) → reading_fault slots at message ≡ None → field_contents fs ≡ contents slots at message → field_offsets fs ≡ offsets slots at → AllByRecursion (Within message) fs
 fields_within slots at message [] r c o = tt
 fields_within [] at message (f ∷ fs) r c o = absurd (let z : ◌≡◌ {A = ℕ} 0 1 = cc in omega arith)
 fields_within (slot ∷ slots) at message (f ∷ fs) r c o =
@@ -27,5 +27,5 @@ fields_within (slot ∷ slots) at message (f ∷ fs) r c o =
     let q : length f.content.now ≡ slot.size = cc in
     (omega arith, fields_within slots (at + 3 + slot.size) message fs right.1 (cc) (cc))
 
-pub handed_within : (slots : List Slot) (message : List ℕ) (fs : List Field) → Handed slots message fs → All (λ f. f.offset + 3 + length f.content.now ≤ length message) fs
+pub handed_within : (slots : List Slot) (message : List ℕ) (fs : List Field) → Handed slots message fs → AllByRecursion (λ f. f.offset + 3 + length f.content.now ≤ length message) fs
 handed_within slots message fs h = fields_within slots 0 message fs h.right h.contents h.offsets

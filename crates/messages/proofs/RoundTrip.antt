@@ -1,6 +1,6 @@
 -- Reading what was written, and writing what was read.
 use Rattle.std.proofs.Common.{◌≡◌, ℕ, ◌+◌, ◌*◌, ◌<◌, List, [], ◌∷◌, ◌++◌, length, get_or, take, drop, Some, None, Option, sym, refl, ap, ◌∙◌, subst, arith}
-use Rattle.std.specs.List.{AllByRecursion as All}
+use Rattle.std.specs.List.{AllByRecursion}
 use Rattle.std.proofs.ByRecursion.{All-take, All-drop}
 use Rattle.std.proofs.lemmas.List.{append_assoc, append-nil, length-append, length-drop, length-take-le, drop_all, drop_at, drop-drop, take_at, get_or-drop}
 use Rattle.std.proofs.lemmas.Bool.Decides.{nat_tests}
@@ -67,7 +67,7 @@ contents_sized (slot ∷ slots) at message e =
     let others = contents_sized slots (at + 3 + slot.size) message h.1 in
     cc
 
-written_from : (slots : List Slot) (at : ℕ) (message : List ℕ) → All (λ b. b < 256) message → reading_fault slots at message ≡ None → drop at message ≡ written (tags slots) (contents slots at message)
+written_from : (slots : List Slot) (at : ℕ) (message : List ℕ) → AllByRecursion (λ b. b < 256) message → reading_fault slots at message ≡ None → drop at message ≡ written (tags slots) (contents slots at message)
 written_from [] at message b e = drop_all at message (grind (arith, nat_tests))
 written_from (slot ∷ slots) at message b e =
     let h = both_none at (field_fault slot (drop at message)) (reading_fault slots (at + 3 + slot.size) message) e in
@@ -83,14 +83,14 @@ pub written_so : WrittenSo
 written_so slots message b e = (written_from slots 0 message b e, contents_sized slots 0 message e)
 
 -- what was said in two bytes each
-entries : (n size : ℕ) (part : List ℕ) → size ≡ 2 * n → length part ≡ size → All (λ b. b < 256) part → (bytes (words part) ≡ part) × (2 * length (words part) ≡ size)
+entries : (n size : ℕ) (part : List ℕ) → size ≡ 2 * n → length part ≡ size → AllByRecursion (λ b. b < 256) part → (bytes (words part) ≡ part) × (2 * length (words part) ≡ size)
 entries n size part e l b = (bytes-words n part (l ∙ e) b, omega (arith, length-words n part (l ∙ e)))
 
 -- lists of bytes
 abbrev Bytes : List (List ℕ) → Type 0
-Bytes parts = All (λ part. All (λ b. b < 256) part) parts
+Bytes parts = AllByRecursion (λ part. AllByRecursion (λ b. b < 256) part) parts
 
-contents-bytes : (slots : List Slot) (at : ℕ) (message : List ℕ) → All (λ b. b < 256) message → Bytes (contents slots at message)
+contents-bytes : (slots : List Slot) (at : ℕ) (message : List ℕ) → AllByRecursion (λ b. b < 256) message → Bytes (contents slots at message)
 contents-bytes [] at message b = tt
 contents-bytes (slot ∷ slots) at message b =
     (All-take (λ b. b < 256) slot.size (drop (at + 3) message) (All-drop (λ b. b < 256) (at + 3) message b), contents-bytes slots (at + 3 + slot.size) message b)
@@ -145,7 +145,7 @@ module _ (sizes : Sizes) (n k : ℕ) (en : sizes.layers ≡ 2 * n) (ek : sizes.f
   contents_said message Two h s = second_said _ _ _ _ _ h s
   contents_said message Three h s = third_said _ _ _ _ _ h s
 
-  message_said : (message : List ℕ) (challenge : Challenge) → All (λ b. b < 256) message → reading_fault (answer_slots challenge sizes) 0 message ≡ None → WritingOf challenge sizes message
+  message_said : (message : List ℕ) (challenge : Challenge) → AllByRecursion (λ b. b < 256) message → reading_fault (answer_slots challenge sizes) 0 message ≡ None → WritingOf challenge sizes message
   message_said message challenge b e =
       let w = written_so (answer_slots challenge sizes) message b e in
       subst (WritingOf challenge sizes) (sym w.0) (contents_said message challenge (contents-bytes (answer_slots challenge sizes) 0 message b) w.1)

@@ -1,4 +1,6 @@
 // Messages between console and exchange: reading and writing them, field by field.
+#![tactic(auto)]
+
 pub mod challenge;
 pub mod fields;
 pub mod reader;

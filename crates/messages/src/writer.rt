@@ -75,8 +75,8 @@ pub fn write_permuted_field(
     layer_len: usize,
     layer_count: usize,
 ) -> usize
-    requires positions_in_bounds { (at + 3 + 2 * length positions.now ≤ length out.old) × (2 * length positions.now < 65536) }
-    requires positions_len { (length positions.now ≡ layer_count * layer_len) × ((length layers.now ≡ layer_count * layer_len) × (below layer_len positions.now ≡ true)) }
+    requires room { (at + 3 + 2 * length positions.now ≤ length out.old) × (2 * length positions.now < 65536) }
+    requires whole { (length positions.now ≡ layer_count * layer_len) × ((length layers.now ≡ layer_count * layer_len) × (below layer_len positions.now ≡ true)) }
     ensures value { result ≡ at + 3 + 2 * length positions.now }
     ensures after { out.new ≡ over out.old at (field tag (bytes (permuted_layers layer_len layer_count positions.now layers.now))) }
 {
@@ -133,9 +133,9 @@ pub fn write_first(
     coins_2: &[u8],
     coins_3: &[u8],
 ) -> usize
-    requires coins_3_in_bounds { 12 + 4 * length positions.now + length coins_2.now + length coins_3.now ≤ length out.old }
-    requires positions_bound { (2 * length positions.now < 65536) × ((length coins_2.now < 65536) × (length coins_3.now < 65536)) }
-    requires positions_len { (length positions.now ≡ layer_count * layer_len) × ((length key_layers.now ≡ layer_count * layer_len) × ((length mask_layers.now ≡ layer_count * layer_len) × (below layer_len positions.now ≡ true))) }
+    requires room { 12 + 4 * length positions.now + length coins_2.now + length coins_3.now ≤ length out.old }
+    requires short { (2 * length positions.now < 65536) × ((length coins_2.now < 65536) × (length coins_3.now < 65536)) }
+    requires whole { (length positions.now ≡ layer_count * layer_len) × ((length key_layers.now ≡ layer_count * layer_len) × ((length mask_layers.now ≡ layer_count * layer_len) × (below layer_len positions.now ≡ true))) }
     ensures { Wrote out.old (answer_written (to_first (permuted_layers layer_len layer_count positions.now key_layers.now) (permuted_layers layer_len layer_count positions.now mask_layers.now) coins_2.now coins_3.now)) out.new result }
 {
     let mask_at = write_permuted_field(out, 0, 11, positions, key_layers, layer_len, layer_count);

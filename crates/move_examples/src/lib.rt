@@ -1,5 +1,6 @@
 // The three moves on cases that another program has computed (tests/vectors): masks, commitments and answers come out byte for
 // byte, these answers are accepted, and changed ones get their causes.
+#![tactic(auto)]
 
 #[cfg(test)]
 mod expected;

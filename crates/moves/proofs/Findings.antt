@@ -1,6 +1,6 @@
 -- What it says that a search finds nothing.
 use Rattle.std.proofs.Common.{◌≡◌, ℕ, zero, suc, ◌+◌, ◌<◌, ◌≤◌, Bool, true, false, cond, ltb, List, [], ◌∷◌, Some, None, Option, refl, ap, ◌∙◌, ap₂, ⊎_elim, arith}
-use Rattle.std.specs.List.{AllByRecursion as All}
+use Rattle.std.specs.List.{AllByRecursion}
 use Rattle.std.proofs.lemmas.Bool.{cond-true, cases_eq, ltb-true, lt-ltb}
 use Rattle.vectors.specs.Layers.{layer, first_failing}
 use Rattle.messages.specs.Checks.{or_else, first_above}
@@ -16,13 +16,13 @@ or_else_none (Some found) y e = let z : ◌≡◌ {A = ℕ} 0 1 = cc in absurd (
 pub none_or_else : {A : Type 0} (x y : Option A) → x ≡ None → y ≡ None → or_else x y ≡ None
 none_or_else x y e d = ap₂ or_else e d
 
-pub all_from_first_above : (q offset : ℕ) (xs : List ℕ) → first_above q offset xs ≡ None → All (λ x. x < q) xs
+pub all_from_first_above : (q offset : ℕ) (xs : List ℕ) → first_above q offset xs ≡ None → AllByRecursion (λ x. x < q) xs
 all_from_first_above q offset [] e = tt
 all_from_first_above q offset (x ∷ xs) e =
     let both = cond_none_first (ltb x q) (first_above q (offset + 2) xs) offset e in
     (ltb-true x q both.0, all_from_first_above q (offset + 2) xs both.1)
 
-pub first_above_from_all : (q offset : ℕ) (xs : List ℕ) → All (λ x. x < q) xs → first_above q offset xs ≡ None
+pub first_above_from_all : (q offset : ℕ) (xs : List ℕ) → AllByRecursion (λ x. x < q) xs → first_above q offset xs ≡ None
 first_above_from_all q offset [] h = refl
 first_above_from_all q offset (x ∷ xs) h = cond-true (ltb x q) _ _ (lt-ltb x q h.0) ∙ first_above_from_all q (offset + 2) xs h.1
 

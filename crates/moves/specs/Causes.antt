@@ -1,6 +1,6 @@
 -- The computed cause of a no, and what it decides.
 use Rattle.std.specs.Prelude.{◌≡◌, ℕ, ◌+◌, ◌*◌, ◌<◌, cond, ◌↔◌, List, [], Some, None, Option, slice_index_or}
-use Rattle.std.specs.List.{AllByRecursion as All}
+use Rattle.std.specs.List.{AllByRecursion}
 use Rattle.refusals.specs.declared.fault.Fault.{Fault}
 use Rattle.refusals.specs.declared.cause.Cause.{Cause}
 use Rattle.refusals.specs.declared.cause.Cause.TheVariants.{Reader, ShapeMissing, NotOpened}
@@ -72,5 +72,5 @@ module _ {E : Type 0} (relation : RelationMeaning E) (scheme : SchemeMeaning) wh
 
   -- there is no cause exactly when the message is the writing of an answer to this challenge that is accepted
   abbrev pub Decided : Type 0
-  Decided = (c : Triple) (challenge : Challenge) (message : List ℕ) → All (λ b. b < 256) message
+  Decided = (c : Triple) (challenge : Challenge) (message : List ℕ) → AllByRecursion (λ b. b < 256) message
       → (cause c challenge message ≡ None) ↔ ((said : Said) × (said_to said ≡ challenge) × (answer_written said ≡ message) × Accepts relation scheme c said)

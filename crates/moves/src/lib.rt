@@ -1,4 +1,6 @@
 // The three moves, for every relation and every scheme: complete, sound and hiding, and the decision on an answer.
+#![tactic(auto)]
+
 ghost use Rattle.moves.specs.Claims.{Complete, Sound, Hiding};
 ghost use Rattle.moves.specs.Causes.{Decided};
 

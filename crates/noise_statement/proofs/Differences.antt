@@ -1,13 +1,13 @@
 -- Differences modulo 2, and the test of a sum by a difference.
 use Rattle.std.proofs.Common.{◌≡◌, ℕ, ◌+◌, ◌-◌, ◌%◌, ◌<◌, List, [], ◌∷◌, Decides, sym, refl, ap, ◌∙◌, subst, ap₂, arith}
-use Rattle.std.specs.List.{AllByRecursion as All}
+use Rattle.std.specs.List.{AllByRecursion}
 use Rattle.std.proofs.lemmas.Bool.Decides.{same_from_decides, Decides-like}
 use Rattle.vectors.specs.Lists.{same}
 use Rattle.vectors.specs.Residues.{plus, minus, Residues}
 use Rattle.vectors.proofs.Sums.{plus-minus, minus_plus}
 use Rattle.relation_laws.proofs.Lists.{same_true, eq_same}
 
-minus-two : (ys ps : List ℕ) → All (λ p. p < 2) ps → minus 2 ys ps ≡ plus 2 ps ys
+minus-two : (ys ps : List ℕ) → AllByRecursion (λ p. p < 2) ps → minus 2 ys ps ≡ plus 2 ps ys
 minus-two [] [] h = refl
 minus-two [] (p ∷ ps) h = refl
 minus-two (y ∷ ys) [] h = refl
@@ -15,9 +15,9 @@ minus-two (y ∷ ys) (p ∷ ps) h =
     let first : (y + (2 - p)) % 2 ≡ (p + y) % 2 = omega (arith, h.0) in
     ap₂ (λ a b. a ∷ b) first (minus-two ys ps h.1)
 
-pub minus_modulo_two : (q : ℕ) (ys ps : List ℕ) → q ≡ 2 → All (λ p. p < q) ps → minus q ys ps ≡ plus q ps ys
+pub minus_modulo_two : (q : ℕ) (ys ps : List ℕ) → q ≡ 2 → AllByRecursion (λ p. p < q) ps → minus q ys ps ≡ plus q ps ys
 minus_modulo_two q ys ps e h =
-    ap (λ n. minus n ys ps) e ∙ minus-two ys ps (subst (λ n. All (λ p. p < n) ps) e h) ∙ ap (λ n. plus n ps ys) (sym e)
+    ap (λ n. minus n ys ps) e ∙ minus-two ys ps (subst (λ n. AllByRecursion (λ p. p < n) ps) e h) ∙ ap (λ n. plus n ps ys) (sym e)
 
 decides_same : (xs ys : List ℕ) → Decides (same xs ys) (xs ≡ ys)
 decides_same xs ys = (same_true xs ys, eq_same xs ys)

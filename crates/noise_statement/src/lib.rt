@@ -1,2 +1,4 @@
 // Noise statements.
+#![tactic(auto)]
+
 pub mod noise;

@@ -4,7 +4,7 @@ ghost use Rattle.refusals.specs.Answers.{Answered};
 ghost use Rattle.vectors.specs.Lists.{same};
 ghost use Rattle.vectors.specs.Residues.{below, plus};
 ghost use Rattle.relation_laws.specs.Statements.{noise_fault};
-ghost use Rattle.relation_laws.specs.Noise.{noise as noise-relation, noise_free, noise_of};
+ghost use Rattle.relation_laws.specs.Noise.{noise as noise_relation, noise_free, noise_of};
 ghost use Rattle.relation_laws.proofs.NoiseLaws.{noise_lawful};
 ghost use Rattle.statements.specs.Given.{statement};
 ghost use Rattle.statements.specs.Made.{Faultless, Dimensions, Lengths, none_from_faultless};
@@ -89,7 +89,7 @@ impl<'a> Noise<'a> {
 impl<'a> Relation for Noise<'a> {
     type Entry = u8;
 
-    ghost meaning = { λ x. noise-relation (statement x.given) };
+    ghost meaning = { λ x. noise_relation (statement x.given) };
 
     ghost laws = { λ x. noise_lawful (statement x.given) (none_from_faultless (noise_fault (statement x.given)) x.made) };
 

@@ -27,8 +27,8 @@ pub fn commit_with_image<R: Relation, S: Scheme>(
     less_target: bool,
     out: &mut [u8],
 ) -> Result<(), Refusal>
-    requires layers { (Layers (R.Relation.meaning relation.now) layers.now) × (Free (R.Relation.meaning relation.now) free.now) }
-    requires coins_len { (length coins.now ≡ (S.Scheme.meaning scheme.old).width) × ((length out.old ≡ (S.Scheme.meaning scheme.old).width) × (length (content permutations) + 2 * (R.Relation.meaning relation.now).image_len ≤ (S.Scheme.meaning scheme.old).limit)) }
+    requires residues { (Layers (R.Relation.meaning relation.now) layers.now) × (Free (R.Relation.meaning relation.now) free.now) }
+    requires widths { (length coins.now ≡ (S.Scheme.meaning scheme.old).width) × ((length out.old ≡ (S.Scheme.meaning scheme.old).width) × (length (content permutations) + 2 * (R.Relation.meaning relation.now).image_len ≤ (S.Scheme.meaning scheme.old).limit)) }
     ensures outcome { MatchResult result (λ _. (out.new ≡ (S.Scheme.meaning scheme.old).value coins.now (content permutations.entry ++ bytes (shown_image (R.Relation.meaning relation.now) less_target layers.now free.now))) × Fresh (S.Scheme.meaning scheme.old) (S.Scheme.state scheme.new)) (λ _. ⊥) }
     ensures kept { S.Scheme.meaning scheme.new ≡ S.Scheme.meaning scheme.old }
 {

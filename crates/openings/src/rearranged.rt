@@ -26,8 +26,8 @@ pub fn commit_rearranged<S: Scheme>(
     layer_count: usize,
     out: &mut [u8],
 ) -> Result<(), Refusal>
-    requires permutations_len { (length (content permutations) ≡ 2 * (layer_count * layer_len)) × ((length layers.now ≡ layer_count * layer_len) × ((below layer_len (numbers_in permutations) ≡ true) × (layer_len ≤ 768))) }
-    requires coins_len { (length coins.now ≡ (S.Scheme.meaning scheme.old).width) × ((length out.old ≡ (S.Scheme.meaning scheme.old).width) × (2 * (layer_count * layer_len) ≤ (S.Scheme.meaning scheme.old).limit)) }
+    requires whole { (length (content permutations) ≡ 2 * (layer_count * layer_len)) × ((length layers.now ≡ layer_count * layer_len) × ((below layer_len (numbers_in permutations) ≡ true) × (layer_len ≤ 768))) }
+    requires widths { (length coins.now ≡ (S.Scheme.meaning scheme.old).width) × ((length out.old ≡ (S.Scheme.meaning scheme.old).width) × (2 * (layer_count * layer_len) ≤ (S.Scheme.meaning scheme.old).limit)) }
     ensures outcome { MatchResult result (λ _. (out.new ≡ (S.Scheme.meaning scheme.old).value coins.now (bytes (permuted_layers layer_len layer_count (numbers_in permutations.entry) layers.now))) × Fresh (S.Scheme.meaning scheme.old) (S.Scheme.state scheme.new)) (λ _. ⊥) }
     ensures kept { S.Scheme.meaning scheme.new ≡ S.Scheme.meaning scheme.old }
 {
@@ -44,8 +44,8 @@ fn feed_rearranged<S: Scheme>(
     layer_len: usize,
     layer_count: usize,
 ) -> Result<(), Refusal>
-    requires permutations_len { (length (content permutations) ≡ 2 * (layer_count * layer_len)) × ((length layers.now ≡ layer_count * layer_len) × ((below layer_len (numbers_in permutations) ≡ true) × (layer_len ≤ 768))) }
-    requires layer_len_bound { 2 * (layer_count * layer_len) ≤ (S.Scheme.state scheme.old).room }
+    requires whole { (length (content permutations) ≡ 2 * (layer_count * layer_len)) × ((length layers.now ≡ layer_count * layer_len) × ((below layer_len (numbers_in permutations) ≡ true) × (layer_len ≤ 768))) }
+    requires room { 2 * (layer_count * layer_len) ≤ (S.Scheme.state scheme.old).room }
     ensures outcome { MatchResult result (λ _. Fed (S.Scheme.state scheme.old) (bytes (permuted_layers layer_len layer_count (numbers_in permutations.entry) layers.now)) (S.Scheme.state scheme.new)) (λ _. ⊥) }
     ensures kept { S.Scheme.meaning scheme.new ≡ S.Scheme.meaning scheme.old }
 {

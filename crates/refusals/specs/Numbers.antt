@@ -2,7 +2,6 @@
 use Rattle.std.specs.Prelude.{ℕ, Some, None, Option}
 use Rattle.refusals.specs.declared.fault.FaultKind.{FaultKind}
 use Rattle.refusals.specs.declared.fault.FaultKind.TheVariants.{CutOff, WrongTag, WrongLength, LeftOver}
-use Rattle.refusals.specs.declared.fault.Fault.{Fault}
 use Rattle.refusals.specs.declared.refusal.Refusal.{Refusal}
 use Rattle.refusals.specs.declared.refusal.Refusal.TheVariants.{SizeOutOfRange, ModulusOutOfRange, BoundOutOfRange, StatementLength, EntryNotBelowModulus, RelationArgument, KeyLength, KeyEntryOutOfRange, KeyWeight, KeyImage, NoExtractedKey, NoSuchConsoleLine, ConsoleLineInUse, MaskPartLength, MaskContent, LoadsUsedUp, LineMemoryShort, SlipNotCarried, RoomShort, ChallengeOutOfRange, NoSuchExchangeLine, ExchangeLineInUse, LineNotOpened, DiceByte, LineNotChallenged, LogFull, LineAlreadyFree, LabelLength, CoinsLength, CommitmentLength, MessageLimit, SchemeLimit, NoSuchEntry, CommitmentsDiffer, EntryChallenges, ExtractionMemoryShort, EntryAltered, RandomBytesRunOut, Unreadable}
 use Rattle.refusals.specs.declared.cause.Cause.{Cause}

@@ -1,5 +1,5 @@
 -- When the calls of a relation refuse.
-use Rattle.std.specs.Prelude.{ℕ, ◌*◌, Bool, true, false, cond, ◌&&◌, List, [], ◌∷◌, length, Some, None, Option, ◌==◌, nat_lt}
+use Rattle.std.specs.Prelude.{ℕ, ◌*◌, Bool, cond, ◌&&◌, List, length, Some, None, Option, ◌==◌, nat_lt}
 use Rattle.vectors.specs.Residues.{below}
 use Rattle.vectors.specs.Lists.{same}
 use Rattle.relation.specs.Meaning.{RelationMeaning, shapes}

@@ -1,5 +1,5 @@
 -- What a relation means: its numbers, its keys, and shape, image, target, split and gather as functions.
-use Rattle.std.specs.Prelude.{◌≡◌, ℕ, zero, suc, ◌*◌, ◌<◌, Bool, true, ◌&&◌, List, Some, None, Option}
+use Rattle.std.specs.Prelude.{◌≡◌, ℕ, zero, suc, ◌*◌, ◌<◌, Bool, true, ◌&&◌, List, None, Option}
 use Rattle.vectors.specs.Residues.{Residues}
 use Rattle.vectors.specs.Layers.{layer}
 

@@ -1,4 +1,6 @@
 // What every relation between statements and keys offers.
+#![tactic(auto)]
+
 ghost use Rattle.std.specs.Prelude.{◌≡◌, length};
 ghost use Rattle.refusals.specs.Answers.{Answered};
 ghost use Rattle.relation.specs.Meaning.{RelationMeaning};

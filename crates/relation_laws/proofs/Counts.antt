@@ -1,6 +1,6 @@
 -- Counts of joined lists; lists that hold only given values, and when two of them are rearrangements of each other.
 use Rattle.std.proofs.Common.{◌≡◌, ℕ, zero, suc, ◌+◌, ◌<◌, ◌≤◌, cond, eqb, List, [], ◌∷◌, ◌++◌, length, replicate, sym, refl, ap, ◌∙◌, ⊎_elim, arith}
-use Rattle.std.specs.List.{AllByRecursion as All}
+use Rattle.std.specs.List.{AllByRecursion}
 use Rattle.std.proofs.lemmas.Bool.{cases_eq, cases_lt, eq-eqb, ne_eqb}
 use Rattle.vectors.specs.Counts.{total, count, Rearranged}
 
@@ -21,7 +21,7 @@ count-replicate_other v x (suc n) h = rw (ne_eqb v x h) (omega (arith, count-rep
 
 -- each entry of xs is one of ds
 abbrev pub Only : List ℕ → List ℕ → Type 0
-Only ds xs = All (λ x. 0 < count x ds) xs
+Only ds xs = AllByRecursion (λ x. 0 < count x ds) xs
 
 -- no value stands twice
 abbrev pub Distinct : List ℕ → Type 0
@@ -74,17 +74,17 @@ count_outside v ds (x ∷ xs) e o =
     (λ (n : v ≡ x → ⊥). rw (ne_eqb v x n) (omega (arith, count_outside v ds xs e o.1))) (cases_eq v x)
 
 -- what holds of each entry, at one that stands in the list
-holds_at : (P : ℕ → Type 0) (v : ℕ) (ds : List ℕ) → All P ds → 0 < count v ds → P v
+holds_at : (P : ℕ → Type 0) (v : ℕ) (ds : List ℕ) → AllByRecursion P ds → 0 < count v ds → P v
 holds_at P v [] h l = absurd (omega arith)
 holds_at P v (d ∷ ds) h l =
     ⊎_elim (λ (e : v ≡ d). rw e h.0)
     (λ (n : v ≡ d → ⊥). holds_at P v ds h.1 (let l' : 0 < 0 + count v ds = rw (ne_eqb v d n) at l in omega arith)) (cases_eq v d)
 
-pub all_from_only : (P : ℕ → Type 0) (ds xs : List ℕ) → All P ds → Only ds xs → All P xs
+pub all_from_only : (P : ℕ → Type 0) (ds xs : List ℕ) → AllByRecursion P ds → Only ds xs → AllByRecursion P xs
 all_from_only P ds [] h o = tt
 all_from_only P ds (x ∷ xs) h o = (holds_at P x ds h o.0, all_from_only P ds xs h o.1)
 
-pub rearranged_from_counts : (ds xs ys : List ℕ) → Only ds xs → Only ds ys → All (λ d. count d xs ≡ count d ys) ds → Rearranged xs ys
+pub rearranged_from_counts : (ds xs ys : List ℕ) → Only ds xs → Only ds ys → AllByRecursion (λ d. count d xs ≡ count d ys) ds → Rearranged xs ys
 rearranged_from_counts ds xs ys ox oy h v =
     ⊎_elim (λ (l : 0 < count v ds). holds_at (λ d. count d xs ≡ count d ys) v ds h l)
     (λ (z : count v ds ≤ 0).

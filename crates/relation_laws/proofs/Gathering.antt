@@ -1,7 +1,7 @@
 -- The sum of 2^j·z_j, modulo q and in whole numbers: what it is of a sum of layers, and of the layers of a key.
 use Rattle.std.proofs.Common.{◌≡◌, ℕ, zero, suc, ◌+◌, ◌-◌, ◌*◌, ◌%◌, ◌^◌, ◌<◌, ◌≤◌, true, false, eqb, List, [], ◌∷◌, map, length, take, drop, replicate, ℤ, pos, negsuc, ◌+ℤ◌, sym, refl, ap, ◌∙◌, subst, ap₂, add-zero, add-suc, suc-add, zero-add, arith}
 use native.Mathlib.Nat.{add-mod, zero-mod, two-pow-succ}
-use Rattle.std.specs.List.{AllByRecursion as All}
+use Rattle.std.specs.List.{AllByRecursion}
 use Rattle.std.proofs.lemmas.Nat.{pow_pos}
 use Rattle.std.proofs.ByRecursion.{All-append, All-drop, All-map, All-take, All-weaker}
 use Rattle.std.proofs.lemmas.List.{drop_at, length-append, length-drop, length-map, length-replicate, length-take-le, take_at}
@@ -50,7 +50,7 @@ residue_doubled q y z h =
     let e : residue q z + residue q z ≡ 2 * residue q z = omega arith in
     residue-add q y (z +ℤ z) h ∙ ap (λ n. (residue q y + n) % q) (residue-add q z z h ∙ ap (λ n. n % q) e)
 
-residues_with_doubled : (q : ℕ) (xs : List ℕ) (ys : List ℤ) → 2 ≤ q → All (λ x. x < q) xs
+residues_with_doubled : (q : ℕ) (xs : List ℕ) (ys : List ℤ) → 2 ≤ q → AllByRecursion (λ x. x < q) xs
     → map (residue q) (with_doubled (map (signed q) xs) ys) ≡ plus q xs (doubled q (map (residue q) ys))
 residues_with_doubled q [] ys h l = refl
 residues_with_doubled q (x ∷ xs) [] h l = refl
@@ -62,7 +62,7 @@ residue-zeros : (q m : ℕ) → map (residue q) (replicate m (pos 0)) ≡ replic
 residue-zeros q zero = refl
 residue-zeros q (suc m) = ap₂ (λ a b. a ∷ b) (zero-mod q) (residue-zeros q m)
 
-pub residues_gathered : (q m K : ℕ) (zs : List ℕ) → 2 ≤ q → All (λ x. x < q) zs → map (residue q) (gathered q m K zs) ≡ combined q m K zs
+pub residues_gathered : (q m K : ℕ) (zs : List ℕ) → 2 ≤ q → AllByRecursion (λ x. x < q) zs → map (residue q) (gathered q m K zs) ≡ combined q m K zs
 residues_gathered q m zero zs h l = residue-zeros q m
 residues_gathered q m (suc K) zs h l =
     residues_with_doubled q (take m zs) (gathered q m K (drop (3 * m) zs)) h (All-take (λ x. x < q) m zs l)
@@ -78,20 +78,20 @@ length-combined q m (suc K) zs e =
     length-plus q (take m zs) (doubled q rest) (omega arith) ∙ first
 
 -- 0, 1 and −1 are of size 1 at most
-units_small : (q : ℕ) → All (λ x. size (signed q x) ≤ 1) (units q)
+units_small : (q : ℕ) → AllByRecursion (λ x. size (signed q x) ≤ 1) (units q)
 units_small q =
     (small 0 (λ e. omega arith), (small 1 (λ e. omega arith), (small (q - 1) (λ e. absurd (eqb-false (q - 1) (q - 1) e refl)), tt)))
   where
     small : (x : ℕ) → (eqb x (q - 1) ≡ false → x ≤ 1) → size (signed q x) ≤ 1
     small x h = cond_both (eqb x (q - 1)) (negsuc 0) (pos x) (λ z. size z ≤ 1) (λ e. omega arith) h
 
-sizes-with_doubled : (n : ℕ) (xs ys : List ℤ) → All (λ x. size x ≤ 1) xs → All (λ y. size y ≤ n) ys → All (λ z. size z ≤ 1 + (n + n)) (with_doubled xs ys)
+sizes-with_doubled : (n : ℕ) (xs ys : List ℤ) → AllByRecursion (λ x. size x ≤ 1) xs → AllByRecursion (λ y. size y ≤ n) ys → AllByRecursion (λ z. size z ≤ 1 + (n + n)) (with_doubled xs ys)
 sizes-with_doubled n [] ys hx hy = tt
 sizes-with_doubled n (x ∷ xs) [] hx hy = tt
 sizes-with_doubled n (x ∷ xs) (y ∷ ys) hx hy =
     (omega (arith, size-add x (y +ℤ y), size-add y y, hx.0, hy.0), sizes-with_doubled n xs ys hx.1 hy.1)
 
-pub sizes-gathered : (q m K : ℕ) (zs : List ℕ) → Only (units q) zs → All (λ z. size z ≤ 2 ^ K - 1) (gathered q m K zs)
+pub sizes-gathered : (q m K : ℕ) (zs : List ℕ) → Only (units q) zs → AllByRecursion (λ z. size z ≤ 2 ^ K - 1) (gathered q m K zs)
 sizes-gathered q m zero zs o = all_replicate (λ z. size z ≤ 2 ^ 0 - 1) m (pos 0) (omega arith)
 sizes-gathered q m (suc K) zs o =
     let n : ℕ = 2 ^ K - 1 in
@@ -112,7 +112,7 @@ map_shifted_zero : (key : List ℤ) → map (shifted 0) key ≡ key
 map_shifted_zero [] = refl
 map_shifted_zero (z ∷ key) = ap₂ (λ a b. a ∷ b) (shifted_zero z) (map_shifted_zero key)
 
-map_shifted_all : (j : ℕ) (key : List ℤ) → All (λ z. size z < 2 ^ j) key → map (shifted j) key ≡ replicate (length key) (pos 0)
+map_shifted_all : (j : ℕ) (key : List ℤ) → AllByRecursion (λ z. size z < 2 ^ j) key → map (shifted j) key ≡ replicate (length key) (pos 0)
 map_shifted_all j [] h = refl
 map_shifted_all j (z ∷ key) h = ap₂ (λ a b. a ∷ b) (shifted_all j z h.0) (map_shifted_all j key h.1)
 
@@ -127,7 +127,7 @@ module _ (q m : ℕ) (key : List ℤ) (h : 3 ≤ q) (e : length key ≡ m) where
   length_digit_layer : (j : ℕ) → length (digit_layer j) ≡ 3 * m
   length_digit_layer j = length-filled q m (map (signed_digit q j) key) h (length_digits j) (only_digits q j key)
 
-  digit_layers_all : (P : ℕ → Type 0) → All P (units q) → (j K : ℕ) → All P (digit_layers q m j K key)
+  digit_layers_all : (P : ℕ → Type 0) → AllByRecursion P (units q) → (j K : ℕ) → AllByRecursion P (digit_layers q m j K key)
   digit_layers_all P u j zero = tt
   digit_layers_all P u j (suc K) =
       All-append P (digit_layer j) (digit_layers q m (suc j) K key)
@@ -140,7 +140,7 @@ module _ (q m : ℕ) (key : List ℤ) (h : 3 ≤ q) (e : length key ≡ m) where
   length-digit_layers j (suc K) =
       length-append (digit_layer j) (digit_layers q m (suc j) K key) ∙ omega (arith, length_digit_layer j, length-digit_layers (suc j) K)
 
-  pub digit_layers-below : (j K : ℕ) → All (λ x. x < q) (digit_layers q m j K key)
+  pub digit_layers-below : (j K : ℕ) → AllByRecursion (λ x. x < q) (digit_layers q m j K key)
   digit_layers-below j K = digit_layers_all (λ x. x < q) (omega arith, (omega arith, (omega arith, tt))) j K
 
   layer-digit_layers : (i K j : ℕ) → j < K → layer (3 * m) j (digit_layers q m i K key) ≡ digit_layer (i + j)
@@ -157,17 +157,17 @@ module _ (q m : ℕ) (key : List ℤ) (h : 3 ≤ q) (e : length key ≡ m) where
   digit_layers-thirds K j l =
       ap (thirds q m) (layer-digit_layers 0 K j l) ∙ thirds-filled q m (map (signed_digit q (0 + j)) key) h (length_digits (0 + j)) (only_digits q (0 + j) key)
 
-  gathered-digit_layers : (j K : ℕ) → All (λ z. size z < 2 ^ (j + K)) key → gathered q m K (digit_layers q m j K key) ≡ map (shifted j) key
+  gathered-digit_layers : (j K : ℕ) → AllByRecursion (λ z. size z < 2 ^ (j + K)) key → gathered q m K (digit_layers q m j K key) ≡ map (shifted j) key
   gathered-digit_layers j zero l =
-      ap (λ n. replicate n (pos 0)) (sym e) ∙ sym (map_shifted_all j key (subst (λ n. All (λ z. size z < 2 ^ n) key) (add-zero j) l))
+      ap (λ n. replicate n (pos 0)) (sym e) ∙ sym (map_shifted_all j key (subst (λ n. AllByRecursion (λ z. size z < 2 ^ n) key) (add-zero j) l))
   gathered-digit_layers j (suc K) l =
       let rest : List ℕ = digit_layers q m (suc j) K key in
       ap₂ (λ a b. with_doubled (map (signed q) a) (gathered q m K b))
       (take-filled q m (map (signed_digit q j) key) h (length_digits j) (only_digits q j key) rest) (drop_at (digit_layer j) rest (3 * m) (length_digit_layer j))
       ∙ ap (with_doubled (map (signed q) (map (signed_digit q j) key)))
-      (gathered-digit_layers (suc j) K (subst (λ n. All (λ z. size z < 2 ^ n) key) (add-suc j K ∙ sym (suc-add j K)) l))
+      (gathered-digit_layers (suc j) K (subst (λ n. AllByRecursion (λ z. size z < 2 ^ n) key) (add-suc j K ∙ sym (suc-add j K)) l))
       ∙ with_doubled-digits q j key h
 
-  pub gathered_split : (K : ℕ) → All (λ z. size z < 2 ^ K) key → gathered q m K (digit_layers q m 0 K key) ≡ key
+  pub gathered_split : (K : ℕ) → AllByRecursion (λ z. size z < 2 ^ K) key → gathered q m K (digit_layers q m 0 K key) ≡ key
   gathered_split K l =
-      gathered-digit_layers 0 K (subst (λ n. All (λ z. size z < 2 ^ n) key) (sym (zero-add K)) l) ∙ map_shifted_zero key
+      gathered-digit_layers 0 K (subst (λ n. AllByRecursion (λ z. size z < 2 ^ n) key) (sym (zero-add K)) l) ∙ map_shifted_zero key

@@ -1,6 +1,6 @@
 -- The test whether two lists are equal; layers one by one; what holds of each entry.
 use Rattle.std.proofs.Common.{◌≡◌, ℕ, zero, suc, ◌+◌, ◌*◌, ◌<◌, true, eqb, List, [], ◌∷◌, length, take, drop, replicate, sym, refl, ap, ◌∙◌, subst, zero-mul, arith}
-use Rattle.std.specs.List.{AllByRecursion as All}
+use Rattle.std.specs.List.{AllByRecursion}
 use Rattle.std.proofs.ByRecursion.{All-append}
 use Rattle.std.proofs.lemmas.List.{length-drop, drop-drop, nil_from_length, take_all, take-append-drop}
 use Rattle.std.proofs.lemmas.Bool.{and_from, and_parts, eqb-true, eq-eqb, false≢true}
@@ -38,13 +38,13 @@ layer_only N zs j e l =
     let first : j ≡ 0 = omega arith in
     ap (λ i. layer N i zs) first ∙ layer-zero N zs ∙ take_all N zs (omega arith)
 
-pub all_from_layers : (P : ℕ → Type 0) (N K : ℕ) (zs : List ℕ) → length zs ≡ K * N → ((j : ℕ) → j < K → All P (layer N j zs)) → All P zs
-all_from_layers P N zero zs e h = subst (All P) (sym (nil_from_length zs (omega arith))) tt
+pub all_from_layers : (P : ℕ → Type 0) (N K : ℕ) (zs : List ℕ) → length zs ≡ K * N → ((j : ℕ) → j < K → AllByRecursion P (layer N j zs)) → AllByRecursion P zs
+all_from_layers P N zero zs e h = subst (AllByRecursion P) (sym (nil_from_length zs (omega arith))) tt
 all_from_layers P N (suc K) zs e h =
-    subst (All P) (take-append-drop N zs)
-    (All-append P (take N zs) (drop N zs) (subst (All P) (layer-zero N zs) (h 0 (omega arith)))
-    (all_from_layers P N K (drop N zs) (length-drop N zs ∙ omega arith) (λ j l. subst (All P) (layer-suc N j zs) (h (suc j) (omega arith)))))
+    subst (AllByRecursion P) (take-append-drop N zs)
+    (All-append P (take N zs) (drop N zs) (subst (AllByRecursion P) (layer-zero N zs) (h 0 (omega arith)))
+    (all_from_layers P N K (drop N zs) (length-drop N zs ∙ omega arith) (λ j l. subst (AllByRecursion P) (layer-suc N j zs) (h (suc j) (omega arith)))))
 
-pub all_replicate : {X : Type 0} (P : X → Type 0) (n : ℕ) (x : X) → P x → All P (replicate n x)
+pub all_replicate : {X : Type 0} (P : X → Type 0) (n : ℕ) (x : X) → P x → AllByRecursion P (replicate n x)
 all_replicate P zero x h = tt
 all_replicate P (suc n) x h = (h, all_replicate P n x h)

@@ -1,6 +1,6 @@
 -- The laws of the noise relation.
 use Rattle.std.proofs.Common.{◌≡◌, ℕ, ◌*◌, ◌<◌, not, eqb, List, length, is_some, Some, None, sym, refl, ap, ◌∙◌, subst, one-mul, arith}
-use Rattle.std.specs.List.{AllByRecursion as All}
+use Rattle.std.specs.List.{AllByRecursion}
 use Rattle.std.proofs.lemmas.Bool.{cond-true, eqb-true, eq-eqb}
 use Rattle.vectors.specs.Counts.{count}
 use Rattle.vectors.specs.Residues.{below, plus, minus, Residues}
@@ -21,7 +21,7 @@ module _ (s : Statement) where
   -- what a key of the statement has
   pub record NoiseKey (key : List ℕ) : Type 0 where
     pub long : length key ≡ s.columns
-    pub bits : All (λ x. x < 2) key
+    pub bits : AllByRecursion (λ x. x < 2) key
     pub heavy : count 1 (noise_of s key) ≡ s.bound
 
   pub noise_key : (key : List ℕ) → noise_key_fault s key ≡ None → NoiseKey key
@@ -82,16 +82,16 @@ module _ (s : Statement) where
           (key_number (below 2 key) _ 22 n (omega arith) (omega arith)
           (key_number (eqb (count 1 (noise_of s key)) s.bound) None 23 n (omega arith) (omega arith) (no_number n)));
       split_layers = λ key h. (noise-whole key, (noise_residues key).1);
-      split_free = λ key h. ((noise_key key h).long, subst (λ n. All (λ x. x < n) key) (sym q) (noise_key key h).bits);
+      split_free = λ key h. ((noise_key key h).long, subst (λ n. AllByRecursion (λ x. x < n) key) (sym q) (noise_key key h).bits);
       split_shaped = λ key h j l.
           ap (ones s.bound) (layer_only s.rows (noise_of s key) j (noise-whole key) l)
-          ∙ ones_from_bits s.bound (noise_of s key) (noise_key key h).heavy (subst (λ n. All (λ x. x < n) (noise_of s key)) q (noise_residues key).1);
+          ∙ ones_from_bits s.bound (noise_of s key) (noise_key key h).heavy (subst (λ n. AllByRecursion (λ x. x < n) (noise_of s key)) q (noise_residues key).1);
       split_image = λ key h. image-noise key;
       gather_extracted = λ zs t hz ht hs e.
           let shaped = ap (ones s.bound) (sym (layer_only s.rows zs 0 hz.0 (omega arith))) ∙ hs 0 (omega arith) in
           ap (λ fault. not (is_some fault))
           (noise_key_none t
-          (record { long = ht.0; bits = subst (λ n. All (λ x. x < n) t) q ht.1; heavy = ap (count 1) (noise_from_image zs t hz e) ∙ count_ones s.bound zs shaped }));
+          (record { long = ht.0; bits = subst (λ n. AllByRecursion (λ x. x < n) t) q ht.1; heavy = ap (count 1) (noise_from_image zs t hz e) ∙ count_ones s.bound zs shaped }));
       gather_split = λ key h. refl;
     }
 

@@ -1,6 +1,6 @@
 -- Lists of zeros and ones, with a stated number of ones.
 use Rattle.std.proofs.Common.{◌≡◌, ℕ, ◌+◌, ◌<◌, true, ◌&&◌, eqb, List, [], ◌∷◌, length, sym, ◌∙◌, ap₂, arith}
-use Rattle.std.specs.List.{AllByRecursion as All}
+use Rattle.std.specs.List.{AllByRecursion}
 use Rattle.std.proofs.ByRecursion.{All-weaker}
 use Rattle.std.proofs.lemmas.Bool.{and_from, and_parts, eqb-true, eq-eqb}
 use Rattle.std.proofs.lemmas.Bool.Decides.{nat_tests}
@@ -31,10 +31,10 @@ only_from_ones w xs h =
     let both = ones_parts w xs h in
     only_from_hits bits xs bits_distinct (omega arith)
 
-pub bits_from_ones : (w : ℕ) (xs : List ℕ) → ones w xs ≡ true → All (λ x. x < 2) xs
+pub bits_from_ones : (w : ℕ) (xs : List ℕ) → ones w xs ≡ true → AllByRecursion (λ x. x < 2) xs
 bits_from_ones w xs h = all_from_only (λ x. x < 2) bits xs (omega arith, (omega arith, tt)) (only_from_ones w xs h)
 
-pub ones_from_bits : (w : ℕ) (xs : List ℕ) → count 1 xs ≡ w → All (λ x. x < 2) xs → ones w xs ≡ true
+pub ones_from_bits : (w : ℕ) (xs : List ℕ) → count 1 xs ≡ w → AllByRecursion (λ x. x < 2) xs → ones w xs ≡ true
 ones_from_bits w xs e h =
     let all = hits_only bits xs bits_distinct (All-weaker (λ x. x < 2) (λ x. 0 < count x bits) bit_counted xs h) in
     and_from (eqb (count 1 xs) w) (eqb (count 0 xs + count 1 xs) (length xs)) (eq-eqb (count 1 xs) w e) (eq-eqb (count 0 xs + count 1 xs) (length xs) (omega arith))

@@ -1,6 +1,6 @@
 -- The laws of the short relation.
 use Rattle.std.proofs.Common.{◌≡◌, ℕ, ◌-◌, ◌*◌, ◌^◌, ◌<◌, ◌≤◌, true, not, eqb, leb, List, length, ℤ, is_some, Some, None, Decides, sym, refl, ap, ◌∙◌, arith}
-use Rattle.std.specs.List.{AllByRecursion as All}
+use Rattle.std.specs.List.{AllByRecursion}
 use Rattle.std.proofs.ByRecursion.{All-weaker, Decides-by_and}
 use Rattle.std.proofs.lemmas.List.{length-map}
 use Rattle.std.proofs.lemmas.Bool.{cond-true, eqb-true, eq-eqb, leb-true, le-leb}
@@ -22,7 +22,7 @@ use Rattle.relation_laws.proofs.Made.{Made, made, none_parts, key_number, no_num
 use Rattle.relation_laws.proofs.Products.{product-plus, product_residues}
 use Rattle.relation_laws.proofs.Thirds.{units, only_from_thirds, thirds_rearranged, rearranged_from_thirds}
 
-decides-sizes : (most : ℕ) (key : List ℤ) → Decides (sizes_within most key) (All (λ z. size z ≤ most) key)
+decides-sizes : (most : ℕ) (key : List ℤ) → Decides (sizes_within most key) (AllByRecursion (λ z. size z ≤ most) key)
 decides-sizes most key =
     Decides-by_and (λ z. leb (size z) most) (λ z. size z ≤ most) (sizes_within most) (λ z. (leb-true (size z) most, le-leb (size z) most)) refl (λ _ _. refl) key
 
@@ -30,7 +30,7 @@ module _ (s : Statement) where
   -- what a key of the statement has, for entries of at most this size
   pub record ShortKey (most : ℕ) (key : List ℤ) : Type 0 where
     pub long : length key ≡ s.columns
-    pub small : All (λ z. size z ≤ most) key
+    pub small : AllByRecursion (λ z. size z ≤ most) key
     pub image : short_product s key ≡ s.target
 
   pub short_key : (most : ℕ) (key : List ℤ) → short_fault_within s most key ≡ None → ShortKey most key
@@ -75,7 +75,7 @@ module _ (s : Statement) where
         gathered_split s.q s.columns key q.0 k.long K
         (All-weaker (λ z. size z ≤ s.bound) (λ z. size z < 2 ^ K) (λ z l. omega (arith, digits_fit s.bound bound.1)) key k.small)
 
-    product-gather : (zs : List ℕ) → All (λ x. x < s.q) zs → short_product s (gather zs) ≡ image_of zs
+    product-gather : (zs : List ℕ) → AllByRecursion (λ x. x < s.q) zs → short_product s (gather zs) ≡ image_of zs
     product-gather zs l = ap (product s.q s.columns s.rows s.matrix) (residues_gathered s.q s.columns K zs (omega arith) l)
 
     only_from_shapes : (zs : List ℕ) → length zs ≡ K * N → ((j : ℕ) → j < K → thirds s.q s.columns (layer N j zs) ≡ true) → Only (units s.q) zs

@@ -1,6 +1,6 @@
 -- Lists of the residues 0, 1 and −1, and lists filled up so that each of them stands equally often.
 use Rattle.std.proofs.Common.{◌≡◌, ℕ, ◌+◌, ◌-◌, ◌*◌, ◌≤◌, true, ◌&&◌, eqb, List, [], ◌∷◌, ◌++◌, length, take, replicate, sym, ap, ◌∙◌, ap₂, arith}
-use Rattle.std.specs.List.{AllByRecursion as All}
+use Rattle.std.specs.List.{AllByRecursion}
 use Rattle.std.proofs.ByRecursion.{All-append}
 use Rattle.std.proofs.lemmas.List.{append_assoc, length-append, length-replicate, take_at}
 use Rattle.std.proofs.lemmas.Bool.{and_from, and_parts, eqb-true, eq-eqb}
@@ -79,7 +79,7 @@ module _ (q m : ℕ) (ds : List ℕ) (h : 3 ≤ q) (e : length ds ≡ m) (o : On
         minuses = omega (arith, count-filled (q - 1), count-replicate (q - 1) minuses, count-replicate_other (q - 1) 0 zeros (λ d. omega arith), count-replicate_other (q - 1) 1 ones (λ d. omega arith));
       })
 
-  pub all_filled : (P : ℕ → Type 0) → P 0 → P 1 → P (q - 1) → All P ds → All P (filled q m ds)
+  pub all_filled : (P : ℕ → Type 0) → P 0 → P 1 → P (q - 1) → AllByRecursion P ds → AllByRecursion P (filled q m ds)
   all_filled P zeros ones minuses digits =
       All-append P ds _ digits
       (All-append P (replicate (m - count (q - 1) ds) (q - 1)) _ (all_replicate P (m - count (q - 1) ds) (q - 1) minuses)

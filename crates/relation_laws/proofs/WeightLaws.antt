@@ -1,6 +1,6 @@
 -- The laws of the weight relation.
 use Rattle.std.proofs.Common.{◌≡◌, ℕ, ◌*◌, ◌<◌, ◌≤◌, not, eqb, List, length, is_some, Some, None, sym, refl, ap, ◌∙◌, one-mul, arith}
-use Rattle.std.specs.List.{AllByRecursion as All}
+use Rattle.std.specs.List.{AllByRecursion}
 use Rattle.std.proofs.ByRecursion.{All-weaker}
 use Rattle.std.proofs.lemmas.Bool.{cond-true, eqb-true, eq-eqb}
 use Rattle.vectors.specs.Counts.{count}
@@ -21,7 +21,7 @@ module _ (s : Statement) where
   -- what a key of the statement has
   pub record WeightKey (key : List ℕ) : Type 0 where
     pub long : length key ≡ s.columns
-    pub bits : All (λ x. x < 2) key
+    pub bits : AllByRecursion (λ x. x < 2) key
     pub heavy : count 1 key ≡ s.bound
     pub image : weight_image s key ≡ s.target
 

@@ -1,4 +1,6 @@
 // The laws of the weight, short and noise relations.
+#![tactic(auto)]
+
 ghost use Rattle.relation_laws.specs.Lawful.{WeightLawful, ShortLawful, NoiseLawful};
 
 // Every weight statement that can be made gives a relation with all the laws.

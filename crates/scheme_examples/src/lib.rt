@@ -1,4 +1,6 @@
 // The schemes run on examples: against SHA-256 on joined bytes, and against each other.
+#![tactic(auto)]
+
 use commitment::message::commit;
 use commitment::part::Part;
 use refusals::refusal::Refusal;

@@ -1,5 +1,5 @@
 -- The hash scheme: SHA-256 of the coins followed by the message.
-use Rattle.std.specs.Prelude.{◌-◌, List, ◌++◌}
+use Rattle.std.specs.Prelude.{◌-◌, ◌++◌}
 use Rattle.std.proofs.Common.{lit≤}
 use Rattle.sha256.specs.declared.state.Sha256.{Sha256}
 use Rattle.sha256.specs.Hash.{sha256}

@@ -1,5 +1,5 @@
 -- A labelled scheme: a fixed label is fed before the message.
-use Rattle.std.specs.Prelude.{◌≡◌, ℕ, ◌+◌, ◌-◌, ◌≤◌, cond, ◌||◌, List, ◌++◌, length, take, Some, None, Option, nat_lt}
+use Rattle.std.specs.Prelude.{ℕ, ◌-◌, ◌≤◌, cond, ◌||◌, List, ◌++◌, length, take, Some, None, Option, nat_lt}
 use Rattle.std.proofs.Common.{arith, length-append, length-take}
 use Rattle.schemes.specs.declared.label.Label.{Label}
 use Rattle.commitment.specs.Meaning.{SchemeMeaning, SchemeLaws}

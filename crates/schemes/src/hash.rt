@@ -1,6 +1,6 @@
 // The hash scheme: SHA-256 of the coins followed by the message.
 ghost use Rattle.std.specs.Prelude.{◌≡◌, ◌≤◌, length};
-ghost use Rattle.sha256.specs.State.{fed as bytes-fed};
+ghost use Rattle.sha256.specs.State.{fed as bytes_fed};
 ghost use Rattle.commitment.specs.Meaning.{Started, Fresh};
 ghost use Rattle.schemes.specs.Hashing.{hash, hash_laws, hash_state};
 
@@ -16,7 +16,7 @@ const LIMIT: usize = 65536;
 #[derive(Clone, Copy)]
 pub struct Hash {
     hasher: Sha256,
-    ghost count: { (32 ≤ bytes-fed hasher) × (bytes-fed hasher ≤ 65568) },
+    ghost count: { (32 ≤ bytes_fed hasher) × (bytes_fed hasher ≤ 65568) },
 }
 
 // A hasher that has taken the coins.

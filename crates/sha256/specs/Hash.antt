@@ -1,5 +1,5 @@
 -- The digest of a message of whole bytes: FIPS 180-4, sections 5.1.1, 5.3.3 and 6.2.2.
-use Rattle.std.specs.Prelude.{ℕ, zero, suc, ◌+◌, ◌-◌, ◌*◌, ◌/◌, ◌%◌, List, [], ◌∷◌, ◌++◌, length, take, drop, replicate}
+use Rattle.std.specs.Prelude.{ℕ, zero, suc, ◌-◌, ◌*◌, ◌/◌, ◌%◌, List, [], ◌∷◌, ◌++◌, length, take, drop, replicate}
 use Rattle.sha256.specs.Block.{compressed}
 
 -- H^(0): the first 32 bits of the fractional parts of the square roots of the first eight primes

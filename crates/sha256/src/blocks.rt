@@ -1,6 +1,6 @@
 // Bytes cut into blocks: whole ones are compressed, and the rest is held.
 ghost use Rattle.std.specs.Prelude.{◌≡◌, ◌+◌, ◌^◌, ◌<◌, ◌≤◌, length};
-ghost use Rattle.sha256.specs.Hash.{initial, chained, padding as padding-of};
+ghost use Rattle.sha256.specs.Hash.{initial, chained, padding as padding_of};
 ghost use Rattle.sha256.specs.State.{Absorbed};
 
 use crate::block::compress;
@@ -64,7 +64,7 @@ impl Blocks {
     // The padding of a message of so many bytes.
     pub fn pad(&mut self, count: u64)
         requires { count < 2 ^ 61 }
-        ensures { Absorbed self.old (padding-of count) self.new }
+        ensures { Absorbed self.old (padding_of count) self.new }
     {
         let zeros = zeros(count);
         let mut padding = first_byte();

@@ -1,7 +1,7 @@
 // The digest of bytes that come piece by piece, or at once.
 ghost use Rattle.std.specs.Prelude.{◌≡◌, ℕ, ◌+◌, ◌^◌, ◌<◌, ◌≤◌, List, [], ◌++◌, length, MatchResult, OnErr, OnOk};
 ghost use Rattle.sha256.specs.Hash.{bytes_of, sha256};
-ghost use Rattle.sha256.specs.State.{digest_after, fed as fed-of};
+ghost use Rattle.sha256.specs.State.{digest_after, fed as fed_of};
 
 use crate::limit::TooLong;
 use crate::state::{Blocks, Sha256};
@@ -23,7 +23,7 @@ fn bytes_in(hash: [u32; 8]) -> [u8; 32]
 
 impl Sha256 {
     pub fn new() -> Sha256
-        ensures { ((m : List ℕ) → digest_after result m ≡ sha256 m) × (fed-of result ≡ 0) }
+        ensures { ((m : List ℕ) → digest_after result m ≡ sha256 m) × (fed_of result ≡ 0) }
     {
         Sha256 {
             running: Blocks::start(),
@@ -33,10 +33,10 @@ impl Sha256 {
 
     // Bytes that keep the message within its limit.
     fn take(&mut self, bytes: &[u8])
-        requires { fed-of self.old + length bytes.now < 2 ^ 61 }
+        requires { fed_of self.old + length bytes.now < 2 ^ 61 }
         ensures digest { (m : List ℕ) →
             digest_after self.new m ≡ digest_after self.old (bytes.now ++ m) }
-        ensures fed { fed-of self.new ≡ fed-of self.old + length bytes.now }
+        ensures fed { fed_of self.new ≡ fed_of self.old + length bytes.now }
     {
         self.running.absorb(bytes);
         self.count += bytes.len() as u64;
@@ -45,11 +45,11 @@ impl Sha256 {
     // More bytes of the message; a refusal changes nothing.
     pub fn update(&mut self, bytes: &[u8]) -> Result<(), TooLong>
         ensures limit { MatchResult result
-            (λ _. fed-of self.old + length bytes.now < 2 ^ 61)
-            (λ _. 2 ^ 61 ≤ fed-of self.old + length bytes.now) }
+            (λ _. fed_of self.old + length bytes.now < 2 ^ 61)
+            (λ _. 2 ^ 61 ≤ fed_of self.old + length bytes.now) }
         ensures digest { OnOk result ((m : List ℕ) →
             digest_after self.new m ≡ digest_after self.old (bytes.now ++ m)) }
-        ensures fed { OnOk result (fed-of self.new ≡ fed-of self.old + length bytes.now) }
+        ensures fed { OnOk result (fed_of self.new ≡ fed_of self.old + length bytes.now) }
         ensures refused { OnErr result (self.new ≡ self.old) }
     {
         if !self.has_room(bytes.len()) {

@@ -1,4 +1,6 @@
 // SHA-256 of FIPS 180-4, for messages of whole bytes.
+#![tactic(auto)]
+
 mod block;
 mod blocks;
 mod constants;

@@ -1,6 +1,6 @@
 // How many bytes a message may have.
 ghost use Rattle.std.specs.Prelude.{◌≡◌, ◌+◌, ◌^◌, nat_lt};
-ghost use Rattle.sha256.specs.State.{fed as fed-of};
+ghost use Rattle.sha256.specs.State.{fed as fed_of};
 
 use crate::state::Sha256;
 
@@ -14,13 +14,13 @@ pub struct TooLong;
 impl Sha256 {
     // The number of bytes so far.
     pub fn fed(&self) -> u64
-        ensures { result ≡ fed-of self.now }
+        ensures { result ≡ fed_of self.now }
     {
         self.count
     }
 
     pub(crate) fn has_room(&self, more: usize) -> bool
-        ensures { result ≡ nat_lt (fed-of self.now + more) (2 ^ 61) }
+        ensures { result ≡ nat_lt (fed_of self.now + more) (2 ^ 61) }
     {
         (more as u64) < LIMIT - self.fed()
     }

@@ -1,6 +1,6 @@
 // The working variables, and their rounds.
 ghost use Rattle.std.specs.Prelude.{◌≡◌, length};
-ghost use Rattle.sha256.specs.Block.{first_sum, second_sum, round as round-of, rounds, loaded as loaded-of, added as added-to};
+ghost use Rattle.sha256.specs.Block.{first_sum, second_sum, round as round_of, rounds, loaded as loaded_of, added as added_to};
 
 use crate::word::{big_sigma_0, big_sigma_1, ch, maj};
 
@@ -33,7 +33,7 @@ fn second_sum(v: Working) -> u32
 }
 
 fn round(v: Working, k: u32, w: u32) -> Working
-    ensures { result ≡ round-of v k w }
+    ensures { result ≡ round_of v k w }
 {
     let first = first_sum(v, k, w);
     let second = second_sum(v);
@@ -73,7 +73,7 @@ pub fn sixteen_rounds(v: Working, k: &[u32], w: [u32; 16]) -> Working
 }
 
 pub fn loaded(hash: [u32; 8]) -> Working
-    ensures { result ≡ loaded-of hash }
+    ensures { result ≡ loaded_of hash }
 {
     Working {
         a: hash[0],
@@ -88,7 +88,7 @@ pub fn loaded(hash: [u32; 8]) -> Working
 }
 
 pub fn added(hash: [u32; 8], v: Working) -> [u32; 8]
-    ensures { result ≡ added-to hash v }
+    ensures { result ≡ added_to hash v }
 {
     [
         hash[0].wrapping_add(v.a),

@@ -1,6 +1,6 @@
 // The schedule of a block, sixteen words at a time.
 ghost use Rattle.std.specs.Prelude.{◌≡◌, length, slice_index};
-ghost use Rattle.sha256.specs.Block.{words, next_word, slid as slid-by};
+ghost use Rattle.sha256.specs.Block.{words, next_word, slid as slid_by};
 
 use crate::word::{small_sigma_0, small_sigma_1};
 
@@ -28,7 +28,7 @@ fn next_word(w: [u32; 16]) -> u32
 
 // Sixteen words, from the sixteen that begin one word earlier.
 fn slid(w: [u32; 16]) -> [u32; 16]
-    ensures { result ≡ slid-by 1 w }
+    ensures { result ≡ slid_by 1 w }
 {
     let next = next_word(w);
     [
@@ -39,7 +39,7 @@ fn slid(w: [u32; 16]) -> [u32; 16]
 
 // The sixteen words after sixteen.
 pub fn following(words: [u32; 16]) -> [u32; 16]
-    ensures { result ≡ slid-by 16 words }
+    ensures { result ≡ slid_by 16 words }
 {
     let mut w = words;
     for _ in 0..16usize {

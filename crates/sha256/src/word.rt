@@ -1,17 +1,17 @@
 // The functions of words of 32 bits.
 ghost use Rattle.std.specs.Prelude.{◌≡◌};
-ghost use Rattle.sha256.specs.Words.{ch as ch-of, maj as maj-of, big_sigma0, big_sigma1, small_sigma0, small_sigma1};
+ghost use Rattle.sha256.specs.Words.{ch as ch_of, maj as maj_of, big_sigma0, big_sigma1, small_sigma0, small_sigma1};
 
 // (x & y) ^ (!x & z), in three operations
 pub fn ch(x: u32, y: u32, z: u32) -> u32
-    ensures { result ≡ ch-of x y z }
+    ensures { result ≡ ch_of x y z }
 {
     ((y ^ z) & x) ^ z
 }
 
 // (x & y) ^ (x & z) ^ (y & z), so that two rounds share an operation
 pub fn maj(x: u32, y: u32, z: u32) -> u32
-    ensures { result ≡ maj-of x y z }
+    ensures { result ≡ maj_of x y z }
 {
     y ^ ((x ^ y) & (y ^ z))
 }

@@ -1,4 +1,6 @@
 // Published examples of SHA-256: by the definition, and run.
+#![tactic(auto)]
+
 ghost use Rattle.std.specs.Prelude.{◌≡◌, ◌<◌, ◌≤◌, [], ◌∷◌, length};
 ghost use Rattle.sha256.specs.Hash.{sha256 as definition};
 

@@ -1,4 +1,6 @@
 // How fast SHA-256 is: the digest of 64 MiB, in pieces of 64 KiB.
+#![tactic(auto)]
+
 use sha256::Sha256;
 use std::io;
 

@@ -1,6 +1,6 @@
 // The entries of a short key: sizes, residues, and binary digits with a sign.
 ghost use Rattle.std.specs.Prelude.{◌≡◌, ◌<◌, ◌≤◌, map, length};
-ghost use Rattle.relation_laws.specs.Short.{sizes_within, residue as residue-of, signed_digit, digits};
+ghost use Rattle.relation_laws.specs.Short.{sizes_within, residue as residue_of, signed_digit, digits};
 
 // The number of binary digits.
 pub fn binary_digits(number: usize) -> usize
@@ -30,7 +30,7 @@ pub fn all_within(key: &[i32], most: usize) -> bool
 
 fn residue(entry: i32, q: u16) -> u16
     requires { 0 < q }
-    ensures { result ≡ residue-of q entry }
+    ensures { result ≡ residue_of q entry }
 {
     entry.rem_euclid(q as i32) as u16
 }
@@ -38,7 +38,7 @@ fn residue(entry: i32, q: u16) -> u16
 // Writes the entries modulo q.
 pub fn write_residues(key: &[i32], q: u16, out: &mut [u16])
     requires { (length out.old ≡ length key.now) × (0 < q) }
-    ensures { out.new ≡ map (residue-of q) key.now }
+    ensures { out.new ≡ map (residue_of q) key.now }
 {
     for i in 0..out.len() {
         out[i] = residue(key[i], q);

@@ -1,4 +1,6 @@
 // Short statements.
+#![tactic(auto)]
+
 mod entries;
 mod layers;
 pub mod short;

@@ -4,7 +4,7 @@ ghost use Rattle.refusals.specs.Answers.{Answered};
 ghost use Rattle.relation.specs.Meaning.{shapes};
 ghost use Rattle.vectors.specs.Lists.{same};
 ghost use Rattle.relation_laws.specs.Statements.{short_fault};
-ghost use Rattle.relation_laws.specs.Short.{digits, short as short-relation, short_product};
+ghost use Rattle.relation_laws.specs.Short.{digits, short as short_relation, short_product};
 ghost use Rattle.relation_laws.proofs.ShortLaws.{short_lawful};
 ghost use Rattle.statements.specs.Given.{statement};
 ghost use Rattle.statements.specs.Made.{Faultless, Dimensions, Lengths, none_from_faultless};
@@ -63,7 +63,7 @@ impl<'a> Short<'a> {
     // Says whether each layer has its shape.
     fn all_shaped(&self, layers: &[u16]) -> bool
         requires { length layers.now ≡ digits self.now.given.bound * (3 * self.now.given.columns) }
-        ensures { result ≡ shapes (short-relation (statement self.now.given)) (digits self.now.given.bound) layers.now }
+        ensures { result ≡ shapes (short_relation (statement self.now.given)) (digits self.now.given.bound) layers.now }
     {
         let columns = self.given.columns;
         let layer_len = 3 * columns;
@@ -83,7 +83,7 @@ impl<'a> Short<'a> {
     // Says whether the image of the layers is the target.
     fn image_is_target(&self, layers: &[u16]) -> bool
         requires { length layers.now ≡ digits self.now.given.bound * (3 * self.now.given.columns) }
-        ensures { result ≡ same ((short-relation (statement self.now.given)).image layers.now []) self.now.given.target.now }
+        ensures { result ≡ same ((short_relation (statement self.now.given)).image layers.now []) self.now.given.target.now }
     {
         let given = self.given;
         let q = given.modulus as u16;
@@ -112,7 +112,7 @@ impl<'a> Short<'a> {
 impl<'a> Relation for Short<'a> {
     type Entry = i32;
 
-    ghost meaning = { λ x. short-relation (statement x.given) };
+    ghost meaning = { λ x. short_relation (statement x.given) };
 
     ghost laws = { λ x. short_lawful (statement x.given) (none_from_faultless (short_fault (statement x.given)) x.made) };
 

@@ -1,12 +1,12 @@
 // The sum of 2^j·z_j over the layers z_j, modulo q and in whole numbers.
 ghost use Rattle.std.specs.Prelude.{◌≡◌, ◌+◌, ◌*◌, ◌<◌, ◌≤◌, length, ◌+ℤ◌};
 ghost use Rattle.relation_laws.specs.Short.{size, combined, gathered, signed as Signed-of};
-ghost use Rattle.short_statement.specs.Sums.{place_sum as place-sum-of, signed_place_sum as signed-place-sum-of};
+ghost use Rattle.short_statement.specs.Sums.{place_sum as place_sum_of, signed_place_sum as signed_place_sum_of};
 
 // The sum of 2^j times entry i of layer j.
 fn place_sum(layers: &[u16], layer_len: usize, layer_count: usize, i: usize) -> u64
     requires { (length layers.now ≡ layer_count * layer_len) × ((layer_count ≤ 15) × (i < layer_len)) }
-    ensures { result ≡ place-sum-of layer_len i layer_count layers.now }
+    ensures { result ≡ place_sum_of layer_len i layer_count layers.now }
 {
     let mut sum: u64 = 0;
     for j in (0..layer_count).rev() {
@@ -44,7 +44,7 @@ fn with_doubled(number: i32, half: i32) -> i32
 // The same sum in whole numbers.
 fn signed_place_sum(layers: &[u16], layer_len: usize, layer_count: usize, i: usize, q: u16) -> i32
     requires { (length layers.now ≡ layer_count * layer_len) × ((layer_count ≤ 15) × ((i < layer_len) × (0 < q))) }
-    ensures { result ≡ signed-place-sum-of q layer_len i layer_count layers.now }
+    ensures { result ≡ signed_place_sum_of q layer_len i layer_count layers.now }
 {
     let mut sum: i32 = 0;
     for j in (0..layer_count).rev() {

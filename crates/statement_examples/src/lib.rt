@@ -1,4 +1,6 @@
 // Statements of each kind, run on examples.
+#![tactic(auto)]
+
 use refusals::refusal::Refusal;
 
 #[cfg(test)]

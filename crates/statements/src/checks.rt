@@ -1,7 +1,7 @@
 // What is checked of every statement, and of the arguments of every call.
 ghost use Rattle.std.specs.Prelude.{◌≡◌, ◌&&◌, length, nat_eq};
 ghost use Rattle.refusals.specs.Answers.{Answered};
-ghost use Rattle.relation_laws.specs.Statements.{statement_fault, within as within-range};
+ghost use Rattle.relation_laws.specs.Statements.{statement_fault, within as within_range};
 ghost use Rattle.vectors.specs.Residues.{below};
 ghost use Rattle.statements.specs.Given.{statement};
 
@@ -11,7 +11,7 @@ use vectors::modular::all_below;
 
 // Both ends are included.
 pub fn within(low: usize, high: usize, number: usize) -> bool
-    ensures { result ≡ within-range low high number }
+    ensures { result ≡ within_range low high number }
 {
     low <= number && number <= high
 }

@@ -1,4 +1,6 @@
 // What every kind of statement is made of.
+#![tactic(auto)]
+
 pub mod bits;
 pub mod checks;
 pub mod counts;

@@ -1,12 +1,12 @@
 // A matrix, row by row, times a list of numbers, modulo q.
 ghost use Rattle.std.specs.Prelude.{◌≡◌, ◌*◌, ◌<◌, ◌≤◌, length};
-ghost use Rattle.relation_laws.specs.Products.{dot as dot-of, product};
+ghost use Rattle.relation_laws.specs.Products.{dot as dot_of, product};
 ghost use Rattle.vectors.specs.Lists.{same};
 
 // The sum of the products of the entries.
 fn dot(left: &[u16], right: &[u16]) -> u64
     requires { (length left.now ≡ length right.now) × (length left.now ≤ 256) }
-    ensures { result ≡ dot-of left.now right.now }
+    ensures { result ≡ dot_of left.now right.now }
 {
     let mut sum: u64 = 0;
     for i in 0..left.len() {

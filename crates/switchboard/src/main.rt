@@ -1,4 +1,6 @@
 // The switchboard program: runs one task from start to end and says what took place.
+#![tactic(auto)]
+
 use std::env;
 
 mod commitments;

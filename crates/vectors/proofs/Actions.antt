@@ -1,6 +1,6 @@
 -- Permutations that act layer by layer: what they keep, how they compose, and those that turn given layers into given rearrangements.
 use Rattle.std.proofs.Common.{◌≡◌, ℕ, ◌*◌, ◌<◌, List, [], ◌∷◌, length, get_or, sym, ap, ◌∙◌, subst, ap₂}
-use Rattle.std.specs.List.{range_with_len, AllByRecursion as All}
+use Rattle.std.specs.List.{range_with_len, AllByRecursion}
 use Rattle.std.proofs.lemmas.List.{length-map}
 use Rattle.vectors.specs.Counts.{count, Rearranged}
 use Rattle.vectors.specs.Permutations.{Permutation, permuted}
@@ -12,7 +12,7 @@ use Rattle.vectors.proofs.Sums.{permuted-plus, plus_residues}
 use Rattle.vectors.proofs.Matching.{matching, length_matching, matching_permutation, permuted_matching, permuted_matching_back}
 use Rattle.vectors.proofs.Layers.{length-layer, layer-plus, layer_residues, same_from_layers, residues_from_layers, length-layerwise, layer-layerwise}
 
-permuted_residues : (q : ℕ) (p xs : List ℕ) → 0 < q → All (λ x. x < q) xs → All (λ x. x < q) (permuted p xs)
+permuted_residues : (q : ℕ) (p xs : List ℕ) → 0 < q → AllByRecursion (λ x. x < q) xs → AllByRecursion (λ x. x < q) (permuted p xs)
 permuted_residues q [] xs z h = tt
 permuted_residues q (i ∷ p) xs z h = (get_or-residue q xs i z h, permuted_residues q p xs z h)
 
@@ -42,7 +42,7 @@ module _ (N K : ℕ) where
     pub permuted_layers_residues : (q : ℕ) (zs : List ℕ) → 0 < q → Residues q (K * N) zs → Residues q (K * N) (permuted_layers N K ps zs)
     permuted_layers_residues q zs z h =
         residues_from_layers q N K (permuted_layers N K ps zs) (length-permuted_layers ps zs hp.size)
-        (λ j l. subst (All (λ x. x < q)) (sym (layer-permuted_layers ps zs hp.size j l)) (permuted_residues q (layer N j ps) (layer N j zs) z (layer_residues q N K zs j h l).1))
+        (λ j l. subst (AllByRecursion (λ x. x < q)) (sym (layer-permuted_layers ps zs hp.size j l)) (permuted_residues q (layer N j ps) (layer N j zs) z (layer_residues q N K zs j h l).1))
 
     pub permuted_layers-plus : (q : ℕ) (xs ys : List ℕ) → 0 < q → Residues q (K * N) xs → Residues q (K * N) ys
         → permuted_layers N K ps (plus q xs ys) ≡ plus q (permuted_layers N K ps xs) (permuted_layers N K ps ys)

@@ -1,6 +1,6 @@
 -- Sums over rearranged lists; permutations as rearrangements of 0 to N - 1, their action and their composition.
 use Rattle.std.proofs.Common.{◌≡◌, ℕ, zero, suc, ◌+◌, ◌<◌, ◌≤◌, Bool, true, false, cond, eqb, ◌⊎◌, List, [], ◌∷◌, map, length, get_or, sym, refl, ap, ◌∙◌, subst, inl, inr, ⊎_elim, not-suc-le-zero, zero-add, arith}
-use Rattle.std.specs.List.{range_with_len, AllByRecursion as All}
+use Rattle.std.specs.List.{range_with_len, AllByRecursion}
 use Rattle.std.proofs.lemmas.Bool.{eqb-true, eq-eqb, ne_eqb, cases_eq, cases_lt}
 use Rattle.std.proofs.lemmas.List.FromFn.{length-range_with_len, get_or-range_with_len}
 use Rattle.std.proofs.lemmas.List.{length-map, get_or-map, ext_get_or}
@@ -43,7 +43,7 @@ pub total-ones : (xs : List ℕ) → total (λ _. 1) xs ≡ length xs
 total-ones [] = refl
 total-ones (x ∷ xs) = omega (arith, total-ones xs)
 
-pub total_same : (f g : ℕ → ℕ) (xs : List ℕ) → All (λ x. f x ≡ g x) xs → total f xs ≡ total g xs
+pub total_same : (f g : ℕ → ℕ) (xs : List ℕ) → AllByRecursion (λ x. f x ≡ g x) xs → total f xs ≡ total g xs
 total_same f g [] h = refl
 total_same f g (x ∷ xs) h = omega (arith, h.0, total_same f g xs h.1)
 
@@ -61,7 +61,7 @@ count-get_or [] i h = absurd (not-suc-le-zero h)
 count-get_or (x ∷ xs) zero h = rw (eq-eqb x x refl) (omega arith)
 count-get_or (x ∷ xs) (suc i) h = omega (arith, count-get_or xs i (omega arith))
 
-pub all_counting : (P : ℕ → Type 0) (a n : ℕ) → ((i : ℕ) → a ≤ i → i < a + n → P i) → All P (range_with_len a n)
+pub all_counting : (P : ℕ → Type 0) (a n : ℕ) → ((i : ℕ) → a ≤ i → i < a + n → P i) → AllByRecursion P (range_with_len a n)
 all_counting P a zero h = tt
 all_counting P a (suc n) h = (h a (omega arith) (omega arith), all_counting P (a + 1) n (λ i l u. h i (omega arith) (omega arith)))
 

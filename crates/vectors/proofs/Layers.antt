@@ -1,7 +1,7 @@
 -- Layers of a flat list, and what acts on them one by one.
 use Rattle.std.proofs.Common.{◌≡◌, ℕ, zero, suc, ◌+◌, ◌-◌, ◌*◌, ◌<◌, ◌≤◌, min, List, ◌++◌, length, take, drop, sym, ap, ◌∙◌, subst, ap₂, not-suc-le-zero, mul-le-mul_right, zero-mul, arith, take-add}
 use borrow.Rule.Slice.PartMut.{put_mid}
-use Rattle.std.specs.List.{AllByRecursion as All}
+use Rattle.std.specs.List.{AllByRecursion}
 use Rattle.std.proofs.ByRecursion.{All-take, All-drop, All-append}
 use Rattle.std.proofs.lemmas.List.{length-append, length-take, length-drop, take_at, drop_at, drop-drop, take-append-drop, nil_from_length}
 use Rattle.std.proofs.lemmas.Slice.{take-put_mid}
@@ -46,15 +46,15 @@ same_from_layers N (suc K) xs ys e d h =
     (λ j l. sym (layer-suc N j xs) ∙ h (suc j) (omega arith) ∙ layer-suc N j ys))
     ∙ take-append-drop N ys
 
-pub residues_from_layers : (q N K : ℕ) (zs : List ℕ) → length zs ≡ K * N → ((j : ℕ) → j < K → All (λ x. x < q) (layer N j zs)) → Residues q (K * N) zs
+pub residues_from_layers : (q N K : ℕ) (zs : List ℕ) → length zs ≡ K * N → ((j : ℕ) → j < K → AllByRecursion (λ x. x < q) (layer N j zs)) → Residues q (K * N) zs
 residues_from_layers q N K zs e h = (e, go K zs e h)
   where
-    go : (K : ℕ) (zs : List ℕ) → length zs ≡ K * N → ((j : ℕ) → j < K → All (λ x. x < q) (layer N j zs)) → All (λ x. x < q) zs
-    go zero zs e h = subst (All (λ x. x < q)) (sym (nil_from_length zs (omega arith))) tt
+    go : (K : ℕ) (zs : List ℕ) → length zs ≡ K * N → ((j : ℕ) → j < K → AllByRecursion (λ x. x < q) (layer N j zs)) → AllByRecursion (λ x. x < q) zs
+    go zero zs e h = subst (AllByRecursion (λ x. x < q)) (sym (nil_from_length zs (omega arith))) tt
     go (suc K) zs e h =
-        subst (All (λ x. x < q)) (take-append-drop N zs)
-        (All-append (λ x. x < q) (take N zs) (drop N zs) (subst (All (λ x. x < q)) (layer-zero N zs) (h 0 (omega arith)))
-        (go K (drop N zs) (length-drop N zs ∙ omega arith) (λ j l. subst (All (λ x. x < q)) (layer-suc N j zs) (h (suc j) (omega arith)))))
+        subst (AllByRecursion (λ x. x < q)) (take-append-drop N zs)
+        (All-append (λ x. x < q) (take N zs) (drop N zs) (subst (AllByRecursion (λ x. x < q)) (layer-zero N zs) (h 0 (omega arith)))
+        (go K (drop N zs) (length-drop N zs ∙ omega arith) (λ j l. subst (AllByRecursion (λ x. x < q)) (layer-suc N j zs) (h (suc j) (omega arith)))))
 
 module _ (f : List ℕ → List ℕ → List ℕ) (N : ℕ) where
   -- f gives N entries at each layer

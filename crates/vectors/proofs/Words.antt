@@ -1,6 +1,6 @@
 -- Numbers as two bytes each: writing and reading undo each other, and a list written number by number.
 use Rattle.std.proofs.Common.{◌≡◌, ℕ, zero, suc, ◌+◌, ◌*◌, ◌/◌, ◌%◌, ◌<◌, ◌≤◌, List, [], ◌∷◌, ◌++◌, length, get_or, take, set, sym, refl, ap, ◌∙◌, ap₂, arith}
-use Rattle.std.specs.List.{AllByRecursion as All}
+use Rattle.std.specs.List.{AllByRecursion}
 use Rattle.std.proofs.lemmas.List.{length-take-le, take_more}
 use Rattle.vectors.specs.Over.{over}
 use Rattle.vectors.specs.Words.{bytes, words}
@@ -38,7 +38,7 @@ words-bytes (x ∷ xs) = ap₂ (λ y ys. y ∷ ys) (let e : x / 256 * 256 + x % 
 pub bytes_injective : (xs ys : List ℕ) → bytes xs ≡ bytes ys → xs ≡ ys
 bytes_injective xs ys e = sym (words-bytes xs) ∙ ap words e ∙ words-bytes ys
 
-pub bytes-words : (n : ℕ) (bs : List ℕ) → length bs ≡ 2 * n → All (λ b. b < 256) bs → bytes (words bs) ≡ bs
+pub bytes-words : (n : ℕ) (bs : List ℕ) → length bs ≡ 2 * n → AllByRecursion (λ b. b < 256) bs → bytes (words bs) ≡ bs
 bytes-words n [] e h = refl
 bytes-words n (x ∷ []) e h = absurd (omega arith)
 bytes-words zero (x ∷ y ∷ bs) e h = absurd (omega arith)

@@ -1,6 +1,6 @@
 -- Lists of residues modulo q: whole numbers from 0 to q - 1.
 use Rattle.std.specs.Prelude.{◌≡◌, ℕ, ◌+◌, ◌-◌, ◌%◌, ◌<◌, Bool, true, ◌&&◌, List, [], ◌∷◌, length, nat_lt}
-use Rattle.std.specs.List.{AllByRecursion as All}
+use Rattle.std.specs.List.{AllByRecursion}
 
 -- whether each entry is below q
 abbrev pub below : ℕ → List ℕ → Bool
@@ -9,7 +9,7 @@ below q (x ∷ xs) = nat_lt x q && below q xs
 
 -- a list of n residues
 abbrev pub Residues : ℕ → ℕ → List ℕ → Type 0
-Residues q n xs = (length xs ≡ n) × All (λ x. x < q) xs
+Residues q n xs = (length xs ≡ n) × AllByRecursion (λ x. x < q) xs
 
 -- the sum, entry by entry, modulo q
 abbrev pub plus : ℕ → List ℕ → List ℕ → List ℕ

@@ -1,4 +1,6 @@
 // Leaf work over lent slices, and the guard that zeroes a lent area.
+#![tactic(auto)]
+
 pub mod encoding;
 pub mod modular;
 pub mod parts;

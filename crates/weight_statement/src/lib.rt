@@ -1,2 +1,4 @@
 // Weight statements.
+#![tactic(auto)]
+
 pub mod weight;

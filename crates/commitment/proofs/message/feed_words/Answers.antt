@@ -1,4 +1,4 @@
-use Rattle.std.proofs.Common.{◌≡◌, ℕ, ◌+◌, ◌-◌, ◌*◌, ◌≤◌, List, ◌++◌, length, take, drop, sym, refl, ap, ◌∙◌, arith}
+use Rattle.std.proofs.Common.{◌≡◌, ◌+◌, ◌-◌, ◌*◌, ◌≤◌, ◌++◌, length, take, drop, sym, refl, ap, ◌∙◌, arith}
 use Rattle.std.proofs.lemmas.List.{drop_all}
 use Rattle.vectors.specs.Words.{bytes}
 use Rattle.vectors.proofs.Words.{length_bytes}
@@ -17,11 +17,11 @@ loop-done-preserved g c =
     let done = c.loop-done.done in
     let count = c.min-count.result in
     let buffer = c.loop-done.buffer in
-    let fed = c.in-ok-feed.ensures in
+    let fed = c.in_ok-feed.ensures in
     let inv = c.loop-done.invariant in
     let within : done + count ≤ length words = omega arith in
     let small : 2 * count ≤ length buffer = omega arith in
-    let piece = ap (take (2 * count - 0)) c.write-words.ensures in (
+    let piece = ap (take (2 * count - 0)) c.write_words.ensures in (
       within,
       omega arith,
       inv.2,

@@ -1,4 +1,4 @@
-use Rattle.std.proofs.Common.{◌≡◌, ap, ◌∙◌}
+use Rattle.std.proofs.Common.{ap, ◌∙◌}
 use Rattle.std.proofs.lemmas.Slice.Eq.{slice_eq-Decides}
 use Rattle.vectors.specs.Lists.{same}
 use Rattle.commitment.specs.Messages.{message}
@@ -9,7 +9,7 @@ use Rattle.std.proofs.lemmas.Bool.Decides.{Decides-eqb}
 pub returns : goal.returns
 returns g c =
     let scheme = g.S.Scheme.meaning c.args.scheme.now in
-    let made = c.in-ok-commit.ensures in
+    let made = c.in_ok-commit.ensures in
     record {
       outcome = (
         opened_none scheme c.args.coins.now (message c.args.parts.now) c.args.value.now made.outcome.0,

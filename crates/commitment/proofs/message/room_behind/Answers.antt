@@ -1,4 +1,4 @@
-use Rattle.std.proofs.Common.{◌≡◌, ◌-◌, ◌*◌, length, Some, None, sym, ap, subst}
+use Rattle.std.proofs.Common.{◌≡◌, ◌-◌, ◌*◌, length, Some, None, sym, subst}
 use Rattle.commitment.specs.Messages.{content}
 use Rattle.commitment.proofs.Feeding.{left, left_words_none, left_words_some}
 use Rattle.commitment.proofs.message.room_behind.Goals as goal

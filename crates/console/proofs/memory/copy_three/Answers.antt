@@ -5,5 +5,5 @@ use Rattle.console.proofs.memory.copy_three.Goals as goal
 pub returns : goal.returns
 returns c =
     let a = c.args in
-    over-three a.target.now c.copy-part.new.target c.copy-part-2.new.target c.copy-part-3.new.target a.at
-    a.first.now a.second.now a.third.now (omega arith) c.copy-part.ensures c.copy-part-2.ensures c.copy-part-3.ensures
+    over-three a.target.now c.copy_part.new.target c.copy_part-2.new.target c.copy_part-3.new.target a.at
+    a.first.now a.second.now a.third.now (omega arith) c.copy_part.ensures c.copy_part-2.ensures c.copy_part-3.ensures

@@ -3,26 +3,26 @@ use Rattle.console_steps.specs.State.{mask_size, coins_size}
 use Rattle.console.proofs.Room.{row_fits}
 use Rattle.console.proofs.memory.mask_on.Goals as goal
 
-pub slice-bounds-result-end : goal.slice-bounds-result-end
-slice-bounds-result-end g c =
+pub slice_bounds-result-end : goal.slice_bounds-result-end
+slice_bounds-result-end g c =
     let size = mask_size (g.R.Relation.meaning c.args.relation.now) (g.S.Scheme.meaning c.args.scheme.now) in
-    let fits = row_fits c.args.line size (length c.args.numbers.now) c.requires.0 c.requires.1 in
+    let fits = row_fits c.args.line size (length c.args.numbers.now) c.requires.line_in_range c.requires.numbers_suffice in
     search rules
 
-pub slice-bounds-result-end-2 : goal.slice-bounds-result-end-2
-slice-bounds-result-end-2 g c =
+pub slice_bounds-result-end-2 : goal.slice_bounds-result-end-2
+slice_bounds-result-end-2 g c =
     let size = mask_size (g.R.Relation.meaning c.args.relation.now) (g.S.Scheme.meaning c.args.scheme.now) in
-    let fits = row_fits c.args.line size (length c.args.numbers.now) c.requires.0 c.requires.1 in
+    let fits = row_fits c.args.line size (length c.args.numbers.now) c.requires.line_in_range c.requires.numbers_suffice in
     search rules
 
-pub slice-bounds-result-end-3 : goal.slice-bounds-result-end-3
-slice-bounds-result-end-3 g c =
+pub slice_bounds-result-end-3 : goal.slice_bounds-result-end-3
+slice_bounds-result-end-3 g c =
     let size = mask_size (g.R.Relation.meaning c.args.relation.now) (g.S.Scheme.meaning c.args.scheme.now) in
-    let fits = row_fits c.args.line size (length c.args.numbers.now) c.requires.0 c.requires.1 in
+    let fits = row_fits c.args.line size (length c.args.numbers.now) c.requires.line_in_range c.requires.numbers_suffice in
     search rules
 
-pub slice-bounds-result-end-4 : goal.slice-bounds-result-end-4
-slice-bounds-result-end-4 g c =
+pub slice_bounds-result-end-4 : goal.slice_bounds-result-end-4
+slice_bounds-result-end-4 g c =
     let size = coins_size (g.R.Relation.meaning c.args.relation.now) (g.S.Scheme.meaning c.args.scheme.now) in
-    let fits = row_fits c.args.line size (length c.args.coins.now) c.requires.0 c.requires.2 in
+    let fits = row_fits c.args.line size (length c.args.coins.now) c.requires.line_in_range c.requires.coins_suffice in
     search rules

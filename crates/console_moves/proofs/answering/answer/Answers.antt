@@ -8,31 +8,31 @@ use Rattle.moves.specs.Moves.{answer}
 use Rattle.console_moves.proofs.Refused.{answer-refused, answer_passed}
 use Rattle.console_moves.proofs.answering.answer.Goals as goal
 
-pub write-answer-requires : goal.write-answer-requires
-write-answer-requires g c = c.in-ok-asked.ensures.1.1
+pub write_answer-requires : goal.write_answer-requires
+write_answer-requires g c = c.in_ok-asked.ensures.1.1
 
-pub returns-in-err-asked : goal.returns-in-err-asked
-returns-in-err-asked g c =
-    let p = err_from_is_err_and c.from-residual.result c.from-residual.ensures.1 in
+pub returns-in_err-asked : goal.returns-in_err-asked
+returns-in_err-asked g c =
+    let p = err_from_is_err_and c.from_residual.result c.from_residual.ensures.1 in
     let fault = answer-refused (g.R.Relation.meaning c.args.relation.now) (g.S.Scheme.meaning c.args.scheme.now) c.args.key.now
-    (mask_of c.args.permutations.now c.args.layers.now c.args.free.now c.args.coins.now) c.args.challenge (length c.args.work.now) (length c.args.out.now) _ c.in-err-asked.ensures.0 in
+    (mask_of c.args.permutations.now c.args.layers.now c.args.free.now c.args.coins.now) c.args.challenge (length c.args.work.now) (length c.args.out.now) _ c.in_err-asked.ensures.0 in
     record { outcome = rw (p.1, p.2) (fault, refl); zeroed = c.drop-guard.ensures }
 
-pub returns-in-err-size : goal.returns-in-err-size
-returns-in-err-size g c =
-    let p = err_from_is_err_and c.from-residual-in-err-size.result c.from-residual-in-err-size.ensures.1 in
-    let refused = c.in-err-size.ensures in
+pub returns-in_err-size : goal.returns-in_err-size
+returns-in_err-size g c =
+    let p = err_from_is_err_and c.from_residual-in_err-size.result c.from_residual-in_err-size.ensures.1 in
+    let refused = c.in_err-size.ensures in
     let fault = answer_passed (g.R.Relation.meaning c.args.relation.now) (g.S.Scheme.meaning c.args.scheme.now) c.args.key.now
-    (mask_of c.args.permutations.now c.args.layers.now c.args.free.now c.args.coins.now) c.args.challenge (length c.args.work.now) (length c.args.out.now) c.in-ok-asked.ensures.0 in
-    record { outcome = rw (p.1, p.2) (fault ∙ refused.0, refused.1); zeroed = c.drop-guard-in-err-size.ensures ∙ ap zeros c.write-answer.auto.work }
+    (mask_of c.args.permutations.now c.args.layers.now c.args.free.now c.args.coins.now) c.args.challenge (length c.args.work.now) (length c.args.out.now) c.in_ok-asked.ensures.0 in
+    record { outcome = rw (p.1, p.2) (fault ∙ refused.0, refused.1); zeroed = c.drop-guard-in_err-size.ensures ∙ ap zeros c.write_answer.auto.work }
 
 pub returns : goal.returns
 returns g c =
     let relation = g.R.Relation.meaning c.args.relation.now in
     let scheme = g.S.Scheme.meaning c.args.scheme.now in
     let mask = (mask_of c.args.permutations.now c.args.layers.now c.args.free.now c.args.coins.now) in
-    let asked = c.in-ok-asked.ensures in
-    let made = c.in-ok-size.ensures in
+    let asked = c.in_ok-asked.ensures in
+    let made = c.in_ok-size.ensures in
     let fault = answer_passed relation scheme c.args.key.now mask c.args.challenge (length c.args.work.now) (length c.args.out.now) asked.0 in
-    let wrote = subst (λ x. Wrote c.args.out.now (answer_written (answer relation scheme c.args.key.now mask x)) c.write-answer.new.out c.in-ok-size.size) asked.1.0 made.1 in
-    record { outcome = (fault ∙ made.0, wrote); zeroed = c.drop-guard-2.ensures ∙ ap zeros c.write-answer.auto.work }
+    let wrote = subst (λ x. Wrote c.args.out.now (answer_written (answer relation scheme c.args.key.now mask x)) c.write_answer.new.out c.in_ok-size.size) asked.1.0 made.1 in
+    record { outcome = (fault ∙ made.0, wrote); zeroed = c.drop-guard-2.ensures ∙ ap zeros c.write_answer.auto.work }

@@ -10,7 +10,7 @@ returns-in-Err g c =
     let found = c.in-Err.ensures in
     let e = sym (found.1 (triple c.args.one.now c.args.two.now c.args.three.now)) in
     record {
-      outcome = (no_fault relation scheme _ c.if-not-limit-suffices.ensures (omega arith), (e, left_early c.in-Err.cause _ _ found.0 refl));
+      outcome = (no_fault relation scheme _ c.if-not-limit_suffices.ensures (omega arith), (e, left_early c.in-Err.cause _ _ found.0 refl));
       decides = yes_to relation scheme (g.R.Relation.laws c.args.relation.now) (g.S.Scheme.laws c.args.scheme.now) (triple c.args.one.now c.args.two.now c.args.three.now) c.args.challenge c.args.message.now _ e;
       kept = refl;
       zeroed = search rules;
@@ -20,10 +20,10 @@ pub returns : goal.returns
 returns g c =
     let relation = g.R.Relation.meaning c.args.relation.now in
     let scheme = g.S.Scheme.meaning c.args.scheme.now in
-    let judged = c.in-ok-verdict.ensures in
+    let judged = c.in_ok-verdict-in-Ok.ensures in
     let e = judged.outcome.0 ∙ sym (c.in-Ok.ensures.cause (triple c.args.one.now c.args.two.now c.args.three.now)) in
     record {
-      outcome = (no_fault relation scheme _ c.if-not-limit-suffices.ensures (omega arith), (e, judged.outcome.1));
+      outcome = (no_fault relation scheme _ c.if-not-limit_suffices.ensures (omega arith), (e, judged.outcome.1));
       decides = yes_to relation scheme (g.R.Relation.laws c.args.relation.now) (g.S.Scheme.laws c.args.scheme.now) (triple c.args.one.now c.args.two.now c.args.three.now) c.args.challenge c.args.message.now _ e;
       kept = judged.kept;
       zeroed = search rules;

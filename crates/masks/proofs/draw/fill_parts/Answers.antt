@@ -3,8 +3,8 @@ use Rattle.masks.specs.Mask.{mask_of}
 use Rattle.masks.proofs.Drawn.{drawn_rest, drawn_filled}
 use Rattle.masks.proofs.draw.fill_parts.Goals as goal
 
-pub count-read-requires : goal.count-read-requires
-count-read-requires g c =
+pub count_read-requires : goal.count_read-requires
+count_read-requires g c =
     let relation = g.R.Relation.meaning c.args.relation.now in
     let width = (g.S.Scheme.meaning c.args.scheme.now).width in
     let coins : length c.args.coins.now ≡ 3 * width = search rules in
@@ -16,5 +16,5 @@ returns-in-Some g c =
     let width = (g.S.Scheme.meaning c.args.scheme.now).width in
     let coins : length c.args.coins.now ≡ 3 * width = search rules in
     drawn_filled relation (g.R.Relation.laws c.args.relation.now) width
-    (mask_of c.args.permutations.now c.args.layers.now c.args.free.now c.args.coins.now) c.args.random.now _ c.count-read.result
-    (sym c.if-not-is-sized.ensures) (c.in-Some.ensures width coins) c.count-read.ensures
+    (mask_of c.args.permutations.now c.args.layers.now c.args.free.now c.args.coins.now) c.args.random.now _ c.count_read.result
+    (sym c.if-not-is_sized.ensures) (c.in-Some.ensures width coins) c.count_read.ensures

@@ -3,8 +3,8 @@ use Rattle.messages.specs.declared.fields.Sizes.{Sizes}
 use Rattle.answer_checks.proofs.Checkable.{residues_placeable, positions_sized}
 use Rattle.message_examples.proofs.tests.cause.Goals as goal
 
-pub answer-cause-requires : goal.answer-cause-requires
-answer-cause-requires c =
+pub answer_cause-requires : goal.answer_cause-requires
+answer_cause-requires c =
     let sizes : Sizes = record { layers = 8; free = 2; width = 4 } in
     let h = c.in-ok-answer.ensures in
     let p = residues_placeable sizes c.args.message.now c.args.challenge c.in-ok-answer.answer h.0 h.1 (omega arith) in

@@ -5,5 +5,5 @@ use Rattle.messages.proofs.writer.write_field.Goals as goal
 pub returns : goal.returns
 returns c = record {
   value = refl;
-  after = field-over c.args.out.now c.write-head.new.out c.copy-part.new.target c.args.at c.args.tag (length c.args.content.now) c.args.content.now refl (omega arith) c.write-head.ensures c.copy-part.ensures;
+  after = field-over c.args.out.now c.write_head.new.out c.copy_part.new.target c.args.at c.args.tag (length c.args.content.now) c.args.content.now refl (omega arith) c.write_head.ensures c.copy_part.ensures;
 }

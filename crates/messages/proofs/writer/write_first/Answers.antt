@@ -9,12 +9,12 @@ returns c =
     let N : ℕ = c.args.layer_len in
     let K : ℕ = c.args.layer_count in
     let ps : List ℕ = c.args.positions.now in
-    let e = length-permuted-bytes N K ps c.args.key-layers.now c.requires.2.0 in
-    let r = length-permuted-bytes N K ps c.args.mask-layers.now c.requires.2.0 in
+    let e = length-permuted-bytes N K ps c.args.key_layers.now c.requires.whole.0 in
+    let r = length-permuted-bytes N K ps c.args.mask_layers.now c.requires.whole.0 in
     wrote c.args.out.now (11 ∷ 12 ∷ 13 ∷ 14 ∷ [])
-    (bytes (permuted_layers N K ps c.args.key-layers.now) ∷ bytes (permuted_layers N K ps c.args.mask-layers.now) ∷ c.args.coins-2.now ∷ c.args.coins-3.now ∷ []) c.write-field.new.out c.write-field.result
-    (placed_more c.write-permuted-field-mask-at.ensures.after
-    (placed_more c.write-permuted-field-coins-2-at.ensures.after
-    (placed_more c.write-field-coins-3-at.ensures.after
-    (placed_more c.write-field.ensures.after (placed_none c.write-field.new.out c.write-field.result) (omega arith) (omega arith))
+    (bytes (permuted_layers N K ps c.args.key_layers.now) ∷ bytes (permuted_layers N K ps c.args.mask_layers.now) ∷ c.args.coins_2.now ∷ c.args.coins_3.now ∷ []) c.write_field.new.out c.write_field.result
+    (placed_more c.write_permuted_field-mask_at.ensures.after
+    (placed_more c.write_permuted_field-coins_2_at.ensures.after
+    (placed_more c.write_field-coins_3_at.ensures.after
+    (placed_more c.write_field.ensures.after (placed_none c.write_field.new.out c.write_field.result) (omega arith) (omega arith))
     (omega arith) (omega arith)) (omega arith) (omega arith)) (omega arith) (omega arith))

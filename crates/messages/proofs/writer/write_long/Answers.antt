@@ -10,10 +10,10 @@ returns c =
     let l = length_bytes c.args.layers.now in
     let f = length_bytes c.args.free.now in
     wrote c.args.out.now (c.args.tag ∷ (c.args.tag + 1) ∷ (c.args.tag + 2) ∷ (c.args.tag + 3) ∷ (c.args.tag + 4) ∷ [])
-    (bytes c.args.permutations.now ∷ bytes c.args.layers.now ∷ bytes c.args.free.now ∷ c.args.lower.now ∷ c.args.upper.now ∷ []) c.write-field.new.out c.write-field.result
-    (placed_more c.write-words-field-layers-at.ensures.after
-    (placed_more c.write-words-field-free-at.ensures.after
-    (placed_more c.write-words-field-lower-at.ensures.after
-    (placed_more c.write-field-upper-at.ensures.after
-    (placed_more c.write-field.ensures.after (placed_none c.write-field.new.out c.write-field.result) (omega arith) (omega arith))
+    (bytes c.args.permutations.now ∷ bytes c.args.layers.now ∷ bytes c.args.free.now ∷ c.args.lower.now ∷ c.args.upper.now ∷ []) c.write_field.new.out c.write_field.result
+    (placed_more c.write_words_field-layers_at.ensures.after
+    (placed_more c.write_words_field-free_at.ensures.after
+    (placed_more c.write_words_field-lower_at.ensures.after
+    (placed_more c.write_field-upper_at.ensures.after
+    (placed_more c.write_field.ensures.after (placed_none c.write_field.new.out c.write_field.result) (omega arith) (omega arith))
     (omega arith) (omega arith)) (omega arith) (omega arith)) (omega arith) (omega arith)) (omega arith) (omega arith))

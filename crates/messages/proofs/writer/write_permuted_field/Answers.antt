@@ -10,38 +10,38 @@ use Rattle.messages.proofs.Writing.{over-layers_none, over-layers_more, over-lay
 use Rattle.messages.proofs.writer.write_permuted_field.Goals as goal
 
 pub loop-j-init : goal.loop-j-init
-loop-j-init c = over-layers_none c.args.layer_len c.write-head.new.out (c.args.at + 3) (permuted_layers c.args.layer_len c.args.layer_count c.args.positions.now c.args.layers.now)
+loop-j-init c = over-layers_none c.args.layer_len c.write_head.new.out (c.args.at + 3) (permuted_layers c.args.layer_len c.args.layer_count c.args.positions.now c.args.layers.now)
 
-pub overflow-mul-from-in-loop-j : goal.overflow-mul-from-in-loop-j
-overflow-mul-from-in-loop-j c = search (rules, row_within)
+pub overflow_mul-from-in-loop-j : goal.overflow_mul-from-in-loop-j
+overflow_mul-from-in-loop-j c = search (rules, row_within)
 
-pub overflow-add-at-in-loop-j : goal.overflow-add-at-in-loop-j
-overflow-add-at-in-loop-j c = search (rules, row_within)
+pub overflow_add-at-in-loop-j : goal.overflow_add-at-in-loop-j
+overflow_add-at-in-loop-j c = search (rules, row_within)
 
-pub offset-bounds-positions-from : goal.offset-bounds-positions-from
-offset-bounds-positions-from c = search (rules, row_within)
+pub offset_bounds-positions-from : goal.offset_bounds-positions-from
+offset_bounds-positions-from c = search (rules, row_within)
 
-pub slice-bounds-write-permuted-end : goal.slice-bounds-write-permuted-end
-slice-bounds-write-permuted-end c = search (rules, row_within)
+pub slice_bounds-write_permuted-end : goal.slice_bounds-write_permuted-end
+slice_bounds-write_permuted-end c = search (rules, row_within)
 
-pub offset-bounds-layers-from : goal.offset-bounds-layers-from
-offset-bounds-layers-from c = search (rules, row_within)
+pub offset_bounds-layers-from : goal.offset_bounds-layers-from
+offset_bounds-layers-from c = search (rules, row_within)
 
-pub slice-bounds-write-permuted-end-in-loop-j : goal.slice-bounds-write-permuted-end-in-loop-j
-slice-bounds-write-permuted-end-in-loop-j c = search (rules, row_within)
+pub slice_bounds-write_permuted-end-in-loop-j : goal.slice_bounds-write_permuted-end-in-loop-j
+slice_bounds-write_permuted-end-in-loop-j c = search (rules, row_within)
 
-pub write-permuted-requires : goal.write-permuted-requires
-write-permuted-requires c =
+pub write_permuted-requires : goal.write_permuted-requires
+write_permuted-requires c =
     let j : ℕ = c.loop-j.j in
     let K : ℕ = c.args.layer_count in
     let N : ℕ = c.args.layer_len in
     let ps : List ℕ = c.args.positions.now in
     let zs : List ℕ = c.args.layers.now in
     let l = c.loop-j-test.true in
-    let p = ap length (row_layer N j ps) ∙ length-layer N K ps j c.requires.1.0 l in
-    let z = ap length (row_layer N j zs) ∙ length-layer N K zs j c.requires.1.1.0 l in
+    let p = ap length (row_layer N j ps) ∙ length-layer N K ps j c.requires.whole.0 l in
+    let z = ap length (row_layer N j zs) ∙ length-layer N K zs j c.requires.whole.1.0 l in
     let w = row_within j K N l in
-    (omega arith, ap₂ below z (row_layer N j ps) ∙ below-part N (j * N) N ps c.requires.1.1.1)
+    (omega arith, ap₂ below z (row_layer N j ps) ∙ below-part N (j * N) N ps c.requires.whole.1.1)
 
 pub loop-j-preserved : goal.loop-j-preserved
 loop-j-preserved c =
@@ -50,8 +50,8 @@ loop-j-preserved c =
     let N : ℕ = c.args.layer_len in
     let ps : List ℕ = c.args.positions.now in
     let zs : List ℕ = c.args.layers.now in
-    over-layers_more N K ps zs j c.write-head.new.out c.loop-j.out c.write-permuted.new.out (c.args.at + 3) c.requires.1.0 c.loop-j-test.true (omega arith) c.loop-j.invariant
-    (c.write-permuted.ensures ∙ ap₂ (λ p b. over c.loop-j.out (c.args.at + 3 + 2 * (j * N)) (bytes (permuted p b))) (row_layer N j ps) (row_layer N j zs))
+    over-layers_more N K ps zs j c.write_head.new.out c.loop-j.out c.write_permuted.new.out (c.args.at + 3) c.requires.whole.0 c.loop-j-test.true (omega arith) c.loop-j.invariant
+    (c.write_permuted.ensures ∙ ap₂ (λ p b. over c.loop-j.out (c.args.at + 3 + 2 * (j * N)) (bytes (permuted p b))) (row_layer N j ps) (row_layer N j zs))
 
 pub returns : goal.returns
 returns c =
@@ -62,6 +62,6 @@ returns c =
     record {
       value = refl;
       after =
-          field-over c.args.out.now c.write-head.new.out c.loop-j.out c.args.at c.args.tag (2 * length ps) (bytes (permuted_layers N K ps zs)) (length-permuted-bytes N K ps zs c.requires.1.0) c.requires.0.0
-          c.write-head.ensures (over-layers_all N K ps zs c.loop-j.j c.write-head.new.out c.loop-j.out (c.args.at + 3) c.requires.1.0 c.loop-j-test.false c.loop-j.invariant);
+          field-over c.args.out.now c.write_head.new.out c.loop-j.out c.args.at c.args.tag (2 * length ps) (bytes (permuted_layers N K ps zs)) (length-permuted-bytes N K ps zs c.requires.whole.0) c.requires.room.0
+          c.write_head.ensures (over-layers_all N K ps zs c.loop-j.j c.write_head.new.out c.loop-j.out (c.args.at + 3) c.requires.whole.0 c.loop-j-test.false c.loop-j.invariant);
     }

@@ -8,6 +8,6 @@ pub returns : goal.returns
 returns c = record {
   value = refl;
   after =
-      field-over c.args.out.now c.write-head.new.out c.write-words.new.out c.args.at c.args.tag (2 * length c.args.numbers.now) (bytes c.args.numbers.now)
-      (length_bytes c.args.numbers.now) (omega arith) c.write-head.ensures c.write-words.ensures;
+      field-over c.args.out.now c.write_head.new.out c.write_words.new.out c.args.at c.args.tag (2 * length c.args.numbers.now) (bytes c.args.numbers.now)
+      (length_bytes c.args.numbers.now) (omega arith) c.write_head.ensures c.write_words.ensures;
 }

@@ -4,7 +4,7 @@ use Rattle.sha256.proofs.round.sixteen_rounds.Goals as goal
 
 pub returns : goal.returns
 returns c =
-    let e : length c.args.w ≡ 16 = omega (arith, c.well-formed) in
+    let e : length c.args.w ≡ 16 = omega (arith, c.well_formed) in
     sixteen_rounds c.args.k.now c.args.w c.requires e c.args.v _ _ _ _ _ _ _ _ _ _ _ _ _ _ _ _
     c.round-v.ensures c.round-v-2.ensures c.round-v-3.ensures c.round-v-4.ensures
     c.round-v-5.ensures c.round-v-6.ensures c.round-v-7.ensures c.round-v-8.ensures

@@ -5,4 +5,4 @@ use Rattle.sha256.proofs.schedule.slid.Goals as goal
 pub returns : goal.returns
 returns c =
     let e : length c.args.w ≡ 16 = omega arith in
-    slid_is c.args.w _ e c.next-word-next.ensures
+    slid_is c.args.w _ e c.next_word-next.ensures

@@ -6,7 +6,7 @@ pub loop-i-preserved : goal.loop-i-preserved
 loop-i-preserved c = (
   simp length-set c.loop-i.invariant.0,
   words_more c.loop-i.w c.args.block.now c.loop-i.i _ c.loop-i.invariant.0 c.requires
-      c.loop-i-test.true c.from-be-bytes.ensures c.loop-i.invariant.1,
+      c.loop-i-test.true c.from_be_bytes.ensures c.loop-i.invariant.1,
 )
 
 pub returns : goal.returns

@@ -6,5 +6,5 @@ use Rattle.short_statement.proofs.entries.residue.Goals as goal
 
 pub returns : goal.returns
 returns c =
-    ap nat_abs (to_z-of_z w32 c.rem-euclid.result (search rules) ∙ c.rem-euclid.ensures.value ∙ ap₂ int_rem_euclid (to_z-of_z w32 c.args.entry c.ranges.entry) (to_z_pos w32 c.args.q (search rules)))
+    ap nat_abs (to_z-of_z w32 c.rem_euclid.result (search rules) ∙ c.rem_euclid.ensures.value ∙ ap₂ int_rem_euclid (to_z-of_z w32 c.args.entry c.ranges.entry) (to_z_pos w32 c.args.q (search rules)))
     ∙ residue_rem_euclid c.args.q c.args.entry c.requires

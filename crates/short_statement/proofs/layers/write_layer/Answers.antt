@@ -6,20 +6,20 @@ use Rattle.relation_laws.proofs.Thirds.{units}
 use Rattle.short_statement.proofs.Filling.{only_digits}
 use Rattle.short_statement.proofs.layers.write_layer.Goals as goal
 
-pub fill-up-requires : goal.fill-up-requires
-fill-up-requires c =
-    let long = ap length c.write-digits.ensures ∙ length-map c.args.key.now (signed_digit c.args.q c.args.j) in (
+pub fill_up-requires : goal.fill_up-requires
+fill_up-requires c =
+    let long = ap length c.write_digits.ensures ∙ length-map c.args.key.now (signed_digit c.args.q c.args.j) in (
       search rules,
       (
         search rules,
         (
           search rules,
-          subst (Only (units c.args.q)) (sym (take_at c.write-digits.new.out _ (length c.args.key.now) long ∙ c.write-digits.ensures)) (only_digits c.args.q c.args.j c.args.key.now),
+          subst (Only (units c.args.q)) (sym (take_at c.write_digits.new.out _ (length c.args.key.now) long ∙ c.write_digits.ensures)) (only_digits c.args.q c.args.j c.args.key.now),
         ),
       ),
     )
 
 pub returns : goal.returns
 returns c =
-    let long = ap length c.write-digits.ensures ∙ length-map c.args.key.now (signed_digit c.args.q c.args.j) in
-    c.fill-up.ensures ∙ ap (filled c.args.q (length c.args.key.now)) (take_at c.write-digits.new.out _ (length c.args.key.now) long ∙ c.write-digits.ensures)
+    let long = ap length c.write_digits.ensures ∙ length-map c.args.key.now (signed_digit c.args.q c.args.j) in
+    c.fill_up.ensures ∙ ap (filled c.args.q (length c.args.key.now)) (take_at c.write_digits.new.out _ (length c.args.key.now) long ∙ c.write_digits.ensures)

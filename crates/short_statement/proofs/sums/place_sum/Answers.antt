@@ -3,8 +3,8 @@ use Rattle.short_statement.specs.Sums.{place_sum}
 use Rattle.short_statement.proofs.Places.{place-within, power_before, place_sum-before, from_last, from_first}
 use Rattle.short_statement.proofs.sums.place_sum.Goals as goal
 
-pub offset-bounds-layers-j : goal.offset-bounds-layers-j
-offset-bounds-layers-j c =
+pub offset_bounds-layers-j : goal.offset_bounds-layers-j
+offset_bounds-layers-j c =
     let w = place-within c.args.layer_count c.args.layer_len c.loop-j.j c.args.i c.loop-j-test.true c.loop-j.auto.j c.requires.1.1 in
     search rules
 

@@ -5,8 +5,8 @@ use Rattle.short_statement.specs.Sums.{signed_place_sum}
 use Rattle.short_statement.proofs.Places.{place-within, power_before, power_small, signed_place_sum-before, from_last, from_first, size-signed, size-with_doubled}
 use Rattle.short_statement.proofs.sums.signed_place_sum.Goals as goal
 
-pub offset-bounds-layers-j : goal.offset-bounds-layers-j
-offset-bounds-layers-j c =
+pub offset_bounds-layers-j : goal.offset_bounds-layers-j
+offset_bounds-layers-j c =
     let w = place-within c.args.layer_count c.args.layer_len c.loop-j.j c.args.i c.loop-j-test.true c.loop-j.auto.j c.requires.1.1.0 in
     search rules
 
@@ -15,8 +15,8 @@ bounds-layers-j c =
     let w = place-within c.args.layer_count c.args.layer_len c.loop-j.j c.args.i c.loop-j-test.true c.loop-j.auto.j c.requires.1.1.0 in
     search rules
 
-pub with-doubled-sum-requires : goal.with-doubled-sum-requires
-with-doubled-sum-requires c =
+pub with_doubled-sum-requires : goal.with_doubled-sum-requires
+with_doubled-sum-requires c =
     let K = c.args.layer_count in
     let N = c.args.layer_len in
     let j = c.loop-j.j in
@@ -38,17 +38,17 @@ loop-j-preserved c =
     let h = c.loop-j-test.true in
     let l = c.loop-j.auto.j in
     let f : SFits w32 c.signed.result = search rules in
-    let g : SFits w32 c.with-doubled-sum.result = search rules in
+    let g : SFits w32 c.with_doubled-sum.result = search rules in
     let x = get_or c.args.layers.now ((j - 1) * N + c.args.i) 0 in
-    let a = to_z-of_z w32 c.with-doubled-sum.result g in
+    let a = to_z-of_z w32 c.with_doubled-sum.result g in
     let b = to_z-of_z w32 c.signed.result f ∙ c.signed.ensures in (
-      a ∙ c.with-doubled-sum.ensures ∙ ap₂ (λ y z. y +ℤ (z +ℤ z)) b c.loop-j.invariant.0 ∙ sym (signed_place_sum-before K N j c.args.i h l c.args.layers.now c.args.q),
+      a ∙ c.with_doubled-sum.ensures ∙ ap₂ (λ y z. y +ℤ (z +ℤ z)) b c.loop-j.invariant.0 ∙ sym (signed_place_sum-before K N j c.args.i h l c.args.layers.now c.args.q),
       omega (
         arith,
-        ap size (a ∙ c.with-doubled-sum.ensures ∙ ap₂ (λ y z. y +ℤ (z +ℤ z)) b c.loop-j.sum_is),
+        ap size (a ∙ c.with_doubled-sum.ensures ∙ ap₂ (λ y z. y +ℤ (z +ℤ z)) b c.loop-j.sum-is),
         size-with_doubled (signed c.args.q x) c.loop-j.sum,
         size-signed c.args.q x (search rules),
-        ap size c.loop-j.sum_is,
+        ap size c.loop-j.sum-is,
         c.loop-j.invariant.1,
         power_before K N j c.args.i h l,
       ),

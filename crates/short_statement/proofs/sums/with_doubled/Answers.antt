@@ -4,13 +4,13 @@ use Rattle.relation_laws.proofs.Integers.{size-add}
 use Rattle.short_statement.proofs.Places.{fits_from_size, size-with_doubled}
 use Rattle.short_statement.proofs.sums.with_doubled.Goals as goal
 
-pub overflow-add-result : goal.overflow-add-result
-overflow-add-result c =
+pub overflow_add-result : goal.overflow_add-result
+overflow_add-result c =
     let half = c.ranges.half in
     simp to_z-of_z (fits_from_size (c.args.half +ℤ c.args.half) (omega (arith, size-add c.args.half c.args.half, c.requires)))
 
-pub overflow-add-result-2 : goal.overflow-add-result-2
-overflow-add-result-2 c =
+pub overflow_add-result-2 : goal.overflow_add-result-2
+overflow_add-result-2 c =
     let half = c.ranges.half in
     let number = c.ranges.number in
     let doubled : SFits w32 (c.args.half +ℤ c.args.half) = fits_from_size (c.args.half +ℤ c.args.half) (omega (arith, size-add c.args.half c.args.half, c.requires)) in

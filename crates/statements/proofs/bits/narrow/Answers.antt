@@ -6,7 +6,7 @@ use Rattle.statements.proofs.bits.narrow.Goals as goal
 pub returns : goal.returns
 returns c = ext_get_or 0 c.loop-i.bytes c.args.numbers.now (omega arith) (λ k h. c.loop-i.invariant k (omega arith))
 
-pub overflow-cast-bytes : goal.overflow-cast-bytes
-overflow-cast-bytes c =
+pub overflow_cast-bytes : goal.overflow_cast-bytes
+overflow_cast-bytes c =
     let h = get_or-below 2 c.args.numbers.now c.loop-i.i (search rules) (search rules) in
     search rules

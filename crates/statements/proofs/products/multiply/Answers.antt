@@ -4,11 +4,11 @@ use Rattle.vectors.proofs.Layers.{row_within}
 use Rattle.statements.proofs.Rows.{entry, entry_row, product_from_entries}
 use Rattle.statements.proofs.products.multiply.Goals as goal
 
-pub offset-bounds-matrix-start : goal.offset-bounds-matrix-start
-offset-bounds-matrix-start c = search (rules, row_within)
+pub offset_bounds-matrix-start : goal.offset_bounds-matrix-start
+offset_bounds-matrix-start c = search (rules, row_within)
 
-pub slice-bounds-dot-end : goal.slice-bounds-dot-end
-slice-bounds-dot-end c = search (rules, row_within)
+pub slice_bounds-dot-end : goal.slice_bounds-dot-end
+slice_bounds-dot-end c = search (rules, row_within)
 
 pub loop-i-preserved : goal.loop-i-preserved
 loop-i-preserved c =

@@ -11,7 +11,7 @@ loop-i-init c = sym (over_none c.args.out.now c.args.at)
 
 pub loop-i-preserved : goal.loop-i-preserved
 loop-i-preserved c =
-    c.write-word.ensures
+    c.write_word.ensures
     ∙ over-bytes_more c.args.out.now c.loop-i.out c.args.at c.args.numbers.now c.loop-i.i c.loop-i-test.true c.requires c.loop-i.invariant
 
 pub returns : goal.returns

@@ -5,8 +5,8 @@ use Rattle.vectors.proofs.Residues.{get_or-below}
 use Rattle.vectors.proofs.Sums.{length-plus, get_or-plus}
 use Rattle.vectors.proofs.modular.add.Goals as goal
 
-pub sum-below-requires : goal.sum-below-requires
-sum-below-requires c =
+pub sum_below-requires : goal.sum_below-requires
+sum_below-requires c =
     let x = get_or-below c.args.q c.args.sum.now c.loop-i.i (omega arith) c.requires.1.0 in
     let y = get_or-below c.args.q c.args.other.now c.loop-i.i (omega arith) c.requires.1.1 in
     search rules

@@ -5,8 +5,8 @@ use Rattle.vectors.proofs.Residues.{get_or-below}
 use Rattle.vectors.proofs.Sums.{length-minus, get_or-minus}
 use Rattle.vectors.proofs.modular.subtract.Goals as goal
 
-pub difference-below-requires : goal.difference-below-requires
-difference-below-requires c =
+pub difference_below-requires : goal.difference_below-requires
+difference_below-requires c =
     let x = get_or-below c.args.q c.args.difference.now c.loop-i.i (omega arith) c.requires.1.0 in
     let y = get_or-below c.args.q c.args.other.now c.loop-i.i (omega arith) c.requires.1.1 in
     search rules

@@ -9,23 +9,23 @@ use Rattle.vectors.proofs.Layers.{row_within, row_layer, length-layer, take-laye
 use Rattle.vectors.proofs.Actions.{length-permuted-layer, length-permuted_layers}
 use Rattle.vectors.proofs.permuting.permute_layers.Goals as goal
 
-pub offset-bounds-positions-from : goal.offset-bounds-positions-from
-offset-bounds-positions-from c = search (rules, row_within)
+pub offset_bounds-positions-from : goal.offset_bounds-positions-from
+offset_bounds-positions-from c = search (rules, row_within)
 
-pub slice-bounds-permute-end : goal.slice-bounds-permute-end
-slice-bounds-permute-end c = search (rules, row_within)
+pub slice_bounds-permute-end : goal.slice_bounds-permute-end
+slice_bounds-permute-end c = search (rules, row_within)
 
-pub offset-bounds-layers-from : goal.offset-bounds-layers-from
-offset-bounds-layers-from c = search (rules, row_within)
+pub offset_bounds-layers-from : goal.offset_bounds-layers-from
+offset_bounds-layers-from c = search (rules, row_within)
 
-pub slice-bounds-permute-end-in-loop-j : goal.slice-bounds-permute-end-in-loop-j
-slice-bounds-permute-end-in-loop-j c = search (rules, row_within)
+pub slice_bounds-permute-end-in-loop-j : goal.slice_bounds-permute-end-in-loop-j
+slice_bounds-permute-end-in-loop-j c = search (rules, row_within)
 
-pub offset-bounds-out-from : goal.offset-bounds-out-from
-offset-bounds-out-from c = search (rules, row_within)
+pub offset_bounds-out-from : goal.offset_bounds-out-from
+offset_bounds-out-from c = search (rules, row_within)
 
-pub slice-bounds-permute-end-in-loop-j-2 : goal.slice-bounds-permute-end-in-loop-j-2
-slice-bounds-permute-end-in-loop-j-2 c = search (rules, row_within)
+pub slice_bounds-permute-end-in-loop-j-2 : goal.slice_bounds-permute-end-in-loop-j-2
+slice_bounds-permute-end-in-loop-j-2 c = search (rules, row_within)
 
 pub permute-requires : goal.permute-requires
 permute-requires c =

@@ -5,28 +5,28 @@ use Rattle.console.proofs.Room.{loads}
 use Rattle.console.proofs.Loading.{load-done}
 use Rattle.console.proofs.console.Console.load.Goals as goal
 
-pub copy-three-requires : goal.copy-three-requires
-copy-three-requires g c =
+pub copy_three-requires : goal.copy_three-requires
+copy_three-requires g c =
     let a = c.args in
     let self = a.self.now in
     let h = loads (g.R.Relation.meaning self.relation) (g.S.Scheme.meaning self.scheme) (console_state self.lines self.loads a.numbers.now a.coins.now) a.line
-    (mask_of a.permutations.now a.layers.now a.free.now a.mask-coins.now) c.in-default.ensures in
-    rw c.mask-size.ensures.size h.numbers_fit
+    (mask_of a.permutations.now a.layers.now a.free.now a.mask_coins.now) c.in_default.ensures in
+    rw c.mask_size.ensures.size h.numbers_fit
 
-pub copy-part-requires : goal.copy-part-requires
-copy-part-requires g c =
+pub copy_part-requires : goal.copy_part-requires
+copy_part-requires g c =
     let a = c.args in
     let self = a.self.now in
     let h = loads (g.R.Relation.meaning self.relation) (g.S.Scheme.meaning self.scheme) (console_state self.lines self.loads a.numbers.now a.coins.now) a.line
-    (mask_of a.permutations.now a.layers.now a.free.now a.mask-coins.now) c.in-default.ensures in
+    (mask_of a.permutations.now a.layers.now a.free.now a.mask_coins.now) c.in_default.ensures in
     rw c.coins_size.ensures.size h.coins_fit
 
-pub overflow-add-count : goal.overflow-add-count
-overflow-add-count g c =
+pub overflow_add-count : goal.overflow_add-count
+overflow_add-count g c =
     let a = c.args in
     let self = a.self.now in
     let h = loads (g.R.Relation.meaning self.relation) (g.S.Scheme.meaning self.scheme) (console_state self.lines self.loads a.numbers.now a.coins.now) a.line
-    (mask_of a.permutations.now a.layers.now a.free.now a.mask-coins.now) c.in-default.ensures in
+    (mask_of a.permutations.now a.layers.now a.free.now a.mask_coins.now) c.in_default.ensures in
     let left = h.count_left in
     search rules
 
@@ -37,8 +37,8 @@ returns g c =
     record {
       ends =
           load-done (g.R.Relation.meaning self.relation) (g.S.Scheme.meaning self.scheme) (console_state self.lines self.loads a.numbers.now a.coins.now) a.line
-          (mask_of a.permutations.now a.layers.now a.free.now a.mask-coins.now) c.mask-size.result c.coins_size.result
-          c.copy-three.new.target c.copy-part.new.target c.in-default.ensures c.mask-size.ensures.size c.coins_size.ensures.size
-          c.copy-three.ensures c.copy-part.ensures;
+          (mask_of a.permutations.now a.layers.now a.free.now a.mask_coins.now) c.mask_size.result c.coins_size.result
+          c.copy_three.new.target c.copy_part.new.target c.in_default.ensures c.mask_size.ensures.size c.coins_size.ensures.size
+          c.copy_three.ensures c.copy_part.ensures;
       kept = (refl, refl);
     }

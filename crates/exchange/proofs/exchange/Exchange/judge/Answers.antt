@@ -9,11 +9,11 @@ returns-in-Some g c =
     let side = c.args.self.now in
     let s = exchange_state side.lines side.table side.entries side.used c.args.records.now c.args.bytes.now in
     let scheme = g.S.Scheme.meaning side.scheme in
-    let fresh = Fresh scheme (g.S.Scheme.state c.judge-row.new.scheme) in
-    let same = c.judge-row.new.scheme ≡ side.scheme in
-    let told = c.in-ok-verdict.ensures in
-    let o = outcome (g.R.Relation.meaning side.relation) scheme s c.args.line c.args.message.now (length c.args.work.now) c.in-ok-challenge.challenge fresh same
-    c.in-ok-verdict.verdict (Some c.in-Some.cause) c.in-ok-challenge.ensures told.outcome c.in-Some.is in
+    let fresh = Fresh scheme (g.S.Scheme.state c.judge_row.new.scheme) in
+    let same = c.judge_row.new.scheme ≡ side.scheme in
+    let told = c.in_ok-verdict.ensures in
+    let o = outcome (g.R.Relation.meaning side.relation) scheme s c.args.line c.args.message.now (length c.args.work.now) c.in_ok-challenge.challenge fresh same
+    c.in_ok-verdict.verdict (Some c.in-Some.cause) c.in_ok-challenge.ensures told.outcome c.in-Some.is in
     record {
       ends = (ap (λ p. p.0) (sym o.step), ap (λ p. p.1) (sym o.step));
       decides = o.decides;
@@ -26,12 +26,12 @@ returns g c =
     let side = c.args.self.now in
     let s = exchange_state side.lines side.table side.entries side.used c.args.records.now c.args.bytes.now in
     let scheme = g.S.Scheme.meaning side.scheme in
-    let fresh = Fresh scheme (g.S.Scheme.state c.judge-row.new.scheme) in
-    let same = c.judge-row.new.scheme ≡ side.scheme in
-    let told = c.in-ok-verdict.ensures in
+    let fresh = Fresh scheme (g.S.Scheme.state c.judge_row.new.scheme) in
+    let same = c.judge_row.new.scheme ≡ side.scheme in
+    let told = c.in_ok-verdict.ensures in
     let kept = c.append.ensures.kept in
-    let o = outcome (g.R.Relation.meaning side.relation) scheme s c.args.line c.args.message.now (length c.args.work.now) c.in-ok-challenge.challenge fresh same
-    c.in-ok-verdict.verdict None c.in-ok-challenge.ensures told.outcome c.in-default.is in
+    let o = outcome (g.R.Relation.meaning side.relation) scheme s c.args.line c.args.message.now (length c.args.work.now) c.in_ok-challenge.challenge fresh same
+    c.in_ok-verdict.verdict None c.in_ok-challenge.ensures told.outcome c.in_default.is in
     record {
       ends = (ap (λ p. p.0) (sym o.step), c.append.ensures.grown ∙ ap (λ p. p.1) (sym o.step));
       decides = o.decides;

@@ -2,12 +2,12 @@ use Rattle.std.proofs.Common.{◌≡◌, [], length, get_or, ap, ◌∙◌, arit
 use Rattle.exchange.proofs.Rows.{row_suffices}
 use Rattle.exchange.proofs.exchange.Exchange.open.Goals as goal
 
-pub write-row-requires : goal.write-row-requires
-write-row-requires g c =
-    let read = c.in-ok-commitments.commitments in
+pub write_row-requires : goal.write_row-requires
+write_row-requires g c =
+    let read = c.in_ok-commitments.commitments in
     let wide = c.width.ensures in
     let laws = g.S.Scheme.laws c.args.self.now.scheme in
     let row : length (get_or c.args.self.now.table c.args.line []) ≡ 384 = search rules in
     let fits = row_suffices c.width.result c.args.message.now read.first.content.now read.second.content.now read.third.content.now
-    c.in-ok-commitments.ensures.contents (omega (arith, laws.width_high)) in
+    c.in_ok-commitments.ensures.contents (omega (arith, laws.width_high)) in
     omega arith

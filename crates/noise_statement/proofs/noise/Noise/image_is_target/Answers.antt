@@ -15,9 +15,9 @@ returns c =
     let given = self.given in
     let free = c.args.free.now in
     let layer = c.args.layer.now in
-    let difference : c.subtract.new.difference ≡ minus given.modulus given.target.now layer = c.subtract.ensures ∙ ap (λ l. minus given.modulus l layer) c.copy-from-slice.ensures.after in
+    let difference : c.subtract.new.difference ≡ minus given.modulus given.target.now layer = c.subtract.ensures ∙ ap (λ l. minus given.modulus l layer) c.copy_from_slice.ensures.after in
     let long : length c.subtract.new.difference ≡ given.rows = omega arith in
-    c.product-is.ensures
+    c.product_is.ensures
     ∙ ap₂ (λ n l. same (product given.modulus given.columns n given.matrix.now free) l) long difference
     ∙ same_minus given.modulus given.rows (noise_free (statement given) free) given.target.now layer
     (product_residues given.modulus given.columns given.rows given.matrix.now free (omega arith))

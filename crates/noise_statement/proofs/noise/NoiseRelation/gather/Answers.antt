@@ -4,11 +4,11 @@ use Rattle.statements.specs.Given.{statement}
 use Rattle.statements.proofs.Calls.{shapes_only, gather_fault_unshaped, gather_fault_none}
 use Rattle.noise_statement.proofs.noise.NoiseRelation.gather.Goals as goal
 
-pub returns-then-not-has-ones : goal.returns-then-not-has-ones
-returns-then-not-has-ones c =
+pub returns-then-not-has_ones : goal.returns-then-not-has_ones
+returns-then-not-has_ones c =
     let s = statement c.args.self.now.given in (
       gather_fault_unshaped (noise s) c.args.layers.now c.args.free.now (length c.args.key.now) (search rules) (search rules)
-          (shapes_only (noise s) c.args.layers.now (search rules) ∙ sym c.if-not-has-ones.ensures),
+          (shapes_only (noise s) c.args.layers.now (search rules) ∙ sym c.if-not-has_ones.ensures),
       search rules,
     )
 
@@ -16,6 +16,6 @@ pub returns : goal.returns
 returns c =
     let s = statement c.args.self.now.given in (
       gather_fault_none (noise s) c.args.layers.now c.args.free.now (length c.args.key.now) (search rules) (search rules)
-          (shapes_only (noise s) c.args.layers.now (search rules) ∙ sym c.if-not-has-ones.ensures) (sym c.if-not-image-is-target.ensures),
+          (shapes_only (noise s) c.args.layers.now (search rules) ∙ sym c.if-not-has_ones.ensures) (sym c.if-not-image_is_target.ensures),
       search rules,
     )

@@ -1,13 +1,13 @@
-use Rattle.std.proofs.Common.{◌≡◌, ℕ, ◌-◌, ◌≤◌, cond, ◌++◌, length, take, replicate, sym, refl, ap, ◌∙◌, ap₂, arith}
+use Rattle.std.proofs.Common.{◌≡◌, ℕ, ◌-◌, ◌≤◌, ◌++◌, length, take, replicate, ap, ◌∙◌, ap₂, arith}
 use Rattle.std.proofs.lemmas.List.{take_all, take-replicate}
 use Rattle.std.proofs.lemmas.Bool.Decides.{nat_tests}
-use Rattle.schemes.specs.Labels.{labelled, label_text, fitting}
+use Rattle.schemes.specs.Labels.{labelled, fitting}
 use Rattle.schemes.proofs.labelled.Labelled.new.Goals as goal
 
 pub returns : goal.returns
 returns g c =
-    let started = c.in-ok-start.ensures in
-    let fed = c.in-ok-feed.ensures in
+    let started = c.in_ok-start.ensures in
+    let fed = c.in_ok-feed.ensures in
     let old = g.S.Scheme.meaning c.args.below in
     let new = g.S.Scheme.meaning c.feed.new.self in
     let label = c.args.label.now in

@@ -6,4 +6,4 @@ pub returns : goal.returns
 returns g c =
     let below = g.S.Scheme.meaning c.args.self.now.below in
     let label = c.args.self.now.label in
-    omega (arith, length-take below.limit (label_text label), ap length c.as-bytes.ensures)
+    omega (arith, length-take below.limit (label_text label), ap length c.as_bytes.ensures)

@@ -7,10 +7,10 @@ returns c =
     let t = c.hold.new.self in
     let u = c.hold-2.new.self in
     let bytes = c.args.bytes.now in
-    let hash = c.compress-all-hash.result in
+    let hash = c.compress_all-hash.result in
     let head = c.min-head.result in
     record {
       hash = absorb_hash s t u bytes hash head c.min-head.ensures c.hold.ensures.filled
-          c.hold.ensures.hash c.compress-all-hash.ensures c.hold-2.ensures.hash;
+          c.hold.ensures.hash c.compress_all-hash.ensures c.hold-2.ensures.hash;
       filled = absorb_filled s t u bytes hash head c.min-head.ensures c.hold.ensures.filled c.hold-2.ensures.filled;
     }

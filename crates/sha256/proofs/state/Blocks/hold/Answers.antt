@@ -2,17 +2,17 @@ use Rattle.std.proofs.Common.{◌+◌, ◌≤◌, length, ◌∙◌, arith}
 use Rattle.sha256.proofs.Chains.{length_held, held_part, held_whole}
 use Rattle.sha256.proofs.state.Blocks.hold.Goals as goal
 
-pub invariant-of-self-else-end-eq64 : goal.invariant-of-self-else-end-eq64
-invariant-of-self-else-end-eq64 c =
+pub invariant_of-self-else-end-eq64 : goal.invariant_of-self-else-end-eq64
+invariant_of-self-else-end-eq64 c =
     let s = c.args.self.now in
-    let fits : s.filled + length c.args.bytes.now ≤ length s.held = omega arith in (
-      (
+    let fits : s.filled + length c.args.bytes.now ≤ length s.held = omega arith in
+    record {
+      sizes = (
         s.sizes.0,
-        length_held s.held c.args.bytes.now _ s.filled fits c.copy-from-slice.ensures.after ∙ s.sizes.1,
+        length_held s.held c.args.bytes.now _ s.filled fits c.copy_from_slice.ensures.after ∙ s.sizes.1,
         omega arith,
-      ),
-      tt,
-    )
+      );
+    }
 
 pub returns-then-end-eq64 : goal.returns-then-end-eq64
 returns-then-end-eq64 c =
@@ -20,7 +20,7 @@ returns-then-end-eq64 c =
     let fits : s.filled + length c.args.bytes.now ≤ length s.held = omega arith in
     record {
       hash = λ m.
-          held_whole s.held c.args.bytes.now _ s.filled fits c.copy-from-slice.ensures.after s.hash _ m
+          held_whole s.held c.args.bytes.now _ s.filled fits c.copy_from_slice.ensures.after s.hash _ m
           s.sizes.1 c.if-end-eq64.true c.compress-hash.ensures;
       filled = omega arith;
     }
@@ -30,6 +30,6 @@ returns-else-end-eq64 c =
     let s = c.args.self.now in
     let fits : s.filled + length c.args.bytes.now ≤ length s.held = omega arith in
     record {
-      hash = λ m. held_part s.held c.args.bytes.now _ s.filled fits c.copy-from-slice.ensures.after s.hash m;
+      hash = λ m. held_part s.held c.args.bytes.now _ s.filled fits c.copy_from_slice.ensures.after s.hash m;
       filled = omega arith;
     }

@@ -5,12 +5,18 @@ use Rattle.statements.specs.Given.{statement}
 use Rattle.statements.proofs.Making.{made_facts}
 use Rattle.short_statement.proofs.short.Short.set.Goals as goal
 
-pub invariant-of-self : goal.invariant-of-self
-invariant-of-self c =
+pub invariant_of-self : goal.invariant_of-self
+invariant_of-self c =
     let given = c.args.given in
-    let none = c.in-default.ensures.0 in
+    let none = c.in_default.ensures.0 in
     let facts =
-    made_facts ((3 ≤ given.modulus) × (given.modulus ≤ 65535)) given c.within-modulus-in.result c.within-bound-in.result (within 3 65535 given.modulus) (within 1 32767 given.bound)
-    c.within-modulus-in.ensures c.within-bound-in.ensures (within_true 3 65535 given.modulus) none in
-    let bound = (made c.within-modulus-in.result c.within-bound-in.result (statement given) none).bound_holds in
-    (facts.0, (facts.1, (facts.2, (within_true 1 32767 given.bound (sym c.within-bound-in.ensures ∙ bound), (facts.3, tt)))))
+    made_facts ((3 ≤ given.modulus) × (given.modulus ≤ 65535)) given c.within-modulus_in.result c.within-bound_in.result (within 3 65535 given.modulus) (within 1 32767 given.bound)
+    c.within-modulus_in.ensures c.within-bound_in.ensures (within_true 3 65535 given.modulus) none in
+    let bound = (made c.within-modulus_in.result c.within-bound_in.result (statement given) none).bound_holds in
+    record {
+      made = facts.0;
+      dimensions = facts.1;
+      modulus = facts.2;
+      bound = within_true 1 32767 given.bound (sym c.within-bound_in.ensures ∙ bound);
+      lengths = facts.3;
+    }

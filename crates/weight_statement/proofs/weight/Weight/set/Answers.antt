@@ -4,10 +4,10 @@ use Rattle.statements.specs.Made.{Modulus}
 use Rattle.statements.proofs.Making.{made_facts}
 use Rattle.weight_statement.proofs.weight.Weight.set.Goals as goal
 
-pub invariant-of-self : goal.invariant-of-self
-invariant-of-self c =
+pub invariant_of-self : goal.invariant_of-self
+invariant_of-self c =
     let given = c.args.given in
     let facts =
-    made_facts (Modulus given) given c.within-modulus-in.result c.within-bound-in.result (within 2 65535 given.modulus) (within 1 given.columns given.bound)
-    c.within-modulus-in.ensures c.within-bound-in.ensures (within_true 2 65535 given.modulus) c.in-default.ensures.0 in
-    (facts.0, (facts.1, (facts.2, (facts.3, tt))))
+    made_facts (Modulus given) given c.within-modulus_in.result c.within-bound_in.result (within 2 65535 given.modulus) (within 1 given.columns given.bound)
+    c.within-modulus_in.ensures c.within-bound_in.ensures (within_true 2 65535 given.modulus) c.in_default.ensures.0 in
+    record { made = facts.0; dimensions = facts.1; modulus = facts.2; lengths = facts.3 }

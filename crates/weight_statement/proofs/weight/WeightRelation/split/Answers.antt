@@ -20,6 +20,6 @@ pub returns : goal.returns
 returns c =
     let s = statement c.args.self.now.given in (
       split_fault_fits (weight s) c.args.key.now (length c.args.layers.now) (length c.args.free.now) (omega arith) (omega arith)
-          ∙ ap (weight_key_fault s) (sym c.widen.ensures) ∙ c.in-default.ensures.0,
+          ∙ ap (weight_key_fault s) (sym c.widen.ensures) ∙ c.in_default.ensures.0,
       (search rules, nil_from_length c.args.free.now (omega arith)),
     )
