@@ -67,7 +67,7 @@ impl<R: Relation, S: Scheme> Console<R, S> {
     ) -> Result<LoadedSlip, Refusal>
         ensures ends { Ends (told_load result) (console_state self.new.lines self.new.loads numbers.new coins.new)
             (load_step (R.Relation.meaning self.old.relation) (S.Scheme.meaning self.old.scheme) (console_state self.old.lines self.old.loads numbers.old coins.old) line (mask_of permutations.now layers.now free.now mask_coins.now)) }
-        ensures kept { ((self.new.relation ≡ self.old.relation)) × (self.new.scheme ≡ self.old.scheme) }
+        ensures kept { (self.new.relation ≡ self.old.relation) × (self.new.scheme ≡ self.old.scheme) }
     {
         if let Some(refusal) = self.load_fault(
             numbers,

@@ -4,7 +4,6 @@ use Rattle.std.specs.List.{AllByRecursion}
 use Rattle.std.proofs.lemmas.List.{length-replicate, get_or-set_same, get_or-set_other, get_or-replicate, get_or_past}
 use Rattle.std.proofs.lemmas.Bool.{cases_eq, cases_lt}
 use Rattle.relation.specs.Meaning.{RelationMeaning}
-use Rattle.relation.specs.Laws.{RelationLaws}
 use Rattle.commitment.specs.Meaning.{SchemeMeaning}
 use Rattle.masks.specs.Mask.{Mask}
 use Rattle.console_steps.specs.declared.lines.Line.{Line}
@@ -130,20 +129,19 @@ module _ {E : Type 0} (relation : RelationMeaning E) (scheme : SchemeMeaning) wh
       (absent count (spent_cleared s line count v k.inside (subst (λ l. Carries l count) (sym k.carried) refl)), h)
   once_more s t e rest (clears slip k) v absent h = h
 
-  module _ (laws : RelationLaws relation) where
-    absent : (s : ConsoleState) (calls : List (Call E)) (n : ℕ) → Valid s → Spent s n → AllByRecursion (λ m. m ≢ n) (answered (events relation scheme s calls))
-    absent s [] n v d = tt
-    absent s (call ∷ calls) n v d =
-        let t = after relation scheme s call in
-        let e = event relation scheme s call in
-        let w = way relation scheme laws s call in
-        absent_more s t e (events relation scheme t calls) n w d (absent t calls n (valid_after s t e w v) (spent_after s t e w v n d))
+  absent : (s : ConsoleState) (calls : List (Call E)) (n : ℕ) → Valid s → Spent s n → AllByRecursion (λ m. m ≢ n) (answered (events relation scheme s calls))
+  absent s [] n v d = tt
+  absent s (call ∷ calls) n v d =
+      let t = after relation scheme s call in
+      let e = event relation scheme s call in
+      let w = way relation scheme s call in
+      absent_more s t e (events relation scheme t calls) n w d (absent t calls n (valid_after s t e w v) (spent_after s t e w v n d))
 
-    pub once : (s : ConsoleState) (calls : List (Call E)) → Valid s → Once (answered (events relation scheme s calls))
-    once s [] v = tt
-    once s (call ∷ calls) v =
-        let t = after relation scheme s call in
-        let e = event relation scheme s call in
-        let w = way relation scheme laws s call in
-        let v₁ = valid_after s t e w v in
-        once_more s t e (events relation scheme t calls) w v (λ n d. absent t calls n v₁ d) (once t calls v₁)
+  pub once : (s : ConsoleState) (calls : List (Call E)) → Valid s → Once (answered (events relation scheme s calls))
+  once s [] v = tt
+  once s (call ∷ calls) v =
+      let t = after relation scheme s call in
+      let e = event relation scheme s call in
+      let w = way relation scheme s call in
+      let v₁ = valid_after s t e w v in
+      once_more s t e (events relation scheme t calls) w v (λ n d. absent t calls n v₁ d) (once t calls v₁)

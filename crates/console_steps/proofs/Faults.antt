@@ -2,7 +2,7 @@
 use Rattle.std.proofs.Common.{◌≡◌, ℕ, ◌*◌, ◌<◌, ◌≤◌, Bool, true, false, cond, not, ◌&&◌, eqb, ltb, leb, ◌≢◌, List, length, Some, None, Option, sym, refl, subst, arith}
 use Rattle.std.proofs.lemmas.Bool.{or_parts, ltb-false, eqb-true, not-false, false≢true}
 use Rattle.relation.specs.Meaning.{RelationMeaning}
-use Rattle.relation.specs.Laws.{RelationLaws}
+use Rattle.relation.specs.Laws.{KeyNumbers}
 use Rattle.commitment.specs.Meaning.{SchemeMeaning}
 use Rattle.masks.specs.Mask.{Mask, WellFormed, sized, sound, mask_fault}
 use Rattle.masks.proofs.Checked.{well_formed_from_tests}
@@ -115,9 +115,9 @@ module _ {E : Type 0} (relation : RelationMeaning E) (scheme : SchemeMeaning) (s
   not_56_output : (out size : ℕ) → Not56 (moves.output_fault out size)
   not_56_output out size = not_56_some (ltb out size) 37 (λ e. omega arith)
 
-  module _ (laws : RelationLaws relation) where
+  module _ (numbers : KeyNumbers relation) where
     not_56_key : (key : List E) → Not56 (relation.key_fault key)
-    not_56_key key = not_56_from_range (relation.key_fault key) (laws.key_numbers key)
+    not_56_key key = not_56_from_range (relation.key_fault key) (numbers key)
 
     pub not_56_commit : (slip : Slip) (key : List E) (work : ℕ) (out : List ℕ) → limit_fault relation scheme ≡ None → Not56 (commit_fault relation scheme s slip key work out)
     not_56_commit slip key work out none =

@@ -4,7 +4,6 @@ use Rattle.std.proofs.lemmas.List.{length-append, length-replicate, get_or-set_s
 use Rattle.std.proofs.lemmas.Bool.{cases_eq, cond_both, eqb-true, eqb-false}
 use Rattle.vectors.specs.Over.{zeros}
 use Rattle.relation.specs.Meaning.{RelationMeaning}
-use Rattle.relation.specs.Laws.{RelationLaws}
 use Rattle.commitment.specs.Meaning.{SchemeMeaning}
 use Rattle.masks.specs.Mask.{Mask, mask_of, WellFormed}
 use Rattle.console_steps.specs.declared.lines.Line.{Line}
@@ -134,11 +133,11 @@ module _ {E : Type 0} (relation : RelationMeaning E) (scheme : SchemeMeaning) wh
   holds_after start s t e (replies line count challenge k) four j h p = holds_cleared start s line four k.inside k.room j h p
   holds_after start s t e (clears slip k) four j h p = holds_cleared start s (slip_line slip) four k.inside k.room j h p
 
-  pub holds : RelationLaws relation → (start s : ConsoleState) (calls : List (Call E)) (line : ℕ) (h : History) → length s.lines ≡ 4 → Holds relation scheme start s line h
+  pub holds : (start s : ConsoleState) (calls : List (Call E)) (line : ℕ) (h : History) → length s.lines ≡ 4 → Holds relation scheme start s line h
       → Holds relation scheme start (run relation scheme s calls) line (history line h (events relation scheme s calls))
-  holds laws start s [] line h four p = p
-  holds laws start s (call ∷ calls) line h four p =
+  holds start s [] line h four p = p
+  holds start s (call ∷ calls) line h four p =
       let t = after relation scheme s call in
       let e = event relation scheme s call in
-      let w = way relation scheme laws s call in
-      holds laws start t calls line (next line h e) (four_after relation scheme s t e w four) (holds_after start s t e w four line h p)
+      let w = way relation scheme s call in
+      holds start t calls line (next line h e) (four_after relation scheme s t e w four) (holds_after start s t e w four line h p)

@@ -3,11 +3,12 @@ use Rattle.std.specs.Prelude.{◌≡◌, ℕ, ◌<◌, ◌≢◌, ◌⊎◌, Lis
 use Rattle.std.specs.List.{AllByRecursion}
 use Rattle.vectors.specs.Over.{zeros}
 use Rattle.relation.specs.Meaning.{RelationMeaning}
+use Rattle.relation.specs.Laws.{KeyNumbers}
 use Rattle.commitment.specs.Meaning.{SchemeMeaning}
 use Rattle.moves.specs.Sizes.{limit_fault}
 use Rattle.console_steps.specs.declared.lines.Line.TheVariants.{Free, Loaded, Committed}
 use Rattle.console_steps.specs.State.{ConsoleState, part, line_at, mask_on, mask_size, coins_size, numbers_start, coins_start, new_console}
-use Rattle.console_steps.specs.Runs.{Call, Event, refused, History, untouched, holding, ended, run, events, answered, history}
+use Rattle.console_steps.specs.Runs.{Call, refused, History, untouched, holding, ended, run, events, answered, history}
 
 -- no number stands in the list twice
 abbrev pub Once : List ℕ → Type 0
@@ -34,6 +35,7 @@ module _ {E : Type 0} (relation : RelationMeaning E) (scheme : SchemeMeaning) wh
     -- the masks of loaded and committed lines are the ones that were loaded; after an answer or a burn the line's memory is zeros until the next load
     pub lines_hold : (numbers coins : List ℕ) (calls : List (Call E)) (line : ℕ) → line < 4
         → Holds (new_console numbers coins) (run relation scheme (new_console numbers coins) calls) line (history line untouched (events relation scheme (new_console numbers coins) calls))
-    -- where the scheme's limit suffices, as it does for every console that was made, no call is refused by 56
-    pub limit_never : (numbers coins : List ℕ) (calls : List (Call E)) → limit_fault relation scheme ≡ None
+    -- where the scheme's limit suffices, as it does for every console that was made, and keys are refused by the key's numbers, no call is
+    -- refused by 56
+    pub limit_never : (numbers coins : List ℕ) (calls : List (Call E)) → limit_fault relation scheme ≡ None → KeyNumbers relation
         → AllByRecursion (λ e. e ≢ refused 56) (events relation scheme (new_console numbers coins) calls)

@@ -1,5 +1,5 @@
 -- Lists of console calls. A slip is any line and any number, so that nothing leans on how slips are passed on.
-use Rattle.std.specs.Prelude.{ℕ, cond, List, [], ◌∷◌, ◌++◌, Ok, Err, Result, ◌==◌}
+use Rattle.std.specs.Prelude.{ℕ, cond, List, [], ◌∷◌, Ok, Err, Result, ◌==◌}
 use Rattle.relation.specs.Meaning.{RelationMeaning}
 use Rattle.commitment.specs.Meaning.{SchemeMeaning}
 use Rattle.masks.specs.Mask.{Mask}

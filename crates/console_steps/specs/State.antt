@@ -1,5 +1,5 @@
 -- A console's lines and the memory that is lent to its calls.
-use Rattle.std.specs.Prelude.{ℕ, ◌+◌, ◌*◌, Bool, true, false, cond, ◌||◌, List, length, take, drop, set, replicate, Some, None, Option, ◌==◌, nat_lt, slice_index_or, slice_set}
+use Rattle.std.specs.Prelude.{ℕ, ◌+◌, ◌*◌, Bool, true, false, cond, ◌||◌, List, length, take, drop, replicate, Some, None, Option, ◌==◌, nat_lt, slice_index_or, slice_set}
 use Rattle.vectors.specs.Over.{over, zeros}
 use Rattle.relation.specs.Meaning.{RelationMeaning}
 use Rattle.commitment.specs.Meaning.{SchemeMeaning}

@@ -6,7 +6,6 @@ use Rattle.commitment.specs.Meaning.{SchemeMeaning}
 use Rattle.masks.specs.Mask.{Mask, mask_fault}
 use Rattle.messages.specs.Checks.{or_else}
 use Rattle.console_moves.specs.Faults as moves
-use Rattle.console_steps.specs.declared.lines.Line.{Line}
 use Rattle.console_steps.specs.declared.lines.Line.TheVariants.{Free, Loaded, Committed}
 use Rattle.console_steps.specs.State.{ConsoleState, console_state, Slip, loaded, committed, slip_line, slip_state, same_line, line_at, mask_on, memory_fault, put, cleared}
 

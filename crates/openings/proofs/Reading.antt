@@ -1,6 +1,6 @@
 -- Numbers that are read from a part of a message, in pieces.
-use Rattle.std.proofs.Common.{◌≡◌, ℕ, zero, suc, ◌+◌, ◌-◌, ◌*◌, ◌≤◌, List, [], ◌∷◌, length, take, drop, sym, refl, ap, ◌∙◌, arith}
-use Rattle.vectors.specs.Words.{bytes, words}
+use Rattle.std.proofs.Common.{◌≡◌, ℕ, zero, suc, ◌+◌, ◌-◌, ◌*◌, List, [], ◌∷◌, length, take, drop, refl, ap, ◌∙◌, arith}
+use Rattle.vectors.specs.Words.{words}
 use Rattle.vectors.proofs.Words.{length_bytes, length-words}
 use Rattle.commitment.specs.declared.part.Part.{Part}
 use Rattle.commitment.specs.declared.part.Part.TheVariants.{Bytes, Words}

@@ -1,5 +1,5 @@
 -- Layers that are moved and fed one by one.
-use Rattle.std.proofs.Common.{◌≡◌, ℕ, ◌+◌, ◌-◌, ◌*◌, ◌<◌, ◌≤◌, List, [], ◌++◌, length, take, drop, sym, refl, ap, ◌∙◌, subst, ap₂, mul-le-mul_right, zero-mul, arith, take-add}
+use Rattle.std.proofs.Common.{◌≡◌, ℕ, ◌+◌, ◌*◌, ◌<◌, ◌≤◌, List, ◌++◌, length, take, sym, refl, ap, ◌∙◌, subst, ap₂, mul-le-mul_right, zero-mul, arith, take-add}
 use Rattle.std.proofs.lemmas.List.{append-nil, append_assoc, length-append, take_all, length-take-le}
 use Rattle.vectors.specs.Words.{bytes}
 use Rattle.vectors.specs.Permutations.{permuted}

@@ -18,8 +18,6 @@ pub record RelationLaws {E : Type 0} (relation : RelationMeaning E) : Type 0 whe
   pub image_residues : (zs t : List ℕ) → Layers relation zs → Free relation t → Residues relation.q relation.image_len (relation.image zs t)
   -- the image of a sum is the sum of the images
   pub image_plus : (zs zs' t t' : List ℕ) → Layers relation zs → Layers relation zs' → Free relation t → Free relation t' → relation.image (plus relation.q zs zs') (plus relation.q t t') ≡ plus relation.q (relation.image zs t) (relation.image zs' t')
-  -- a value that is no key of the statement is refused by one of the key's numbers
-  pub key_numbers : (key : List E) (n : ℕ) → relation.key_fault key ≡ Some n → (21 ≤ n) × (n ≤ 24)
   -- what split gives has every shape, and its image is the target
   pub split_layers : (key : List E) → Key relation key → Layers relation (relation.split_layers key)
   pub split_free : (key : List E) → Key relation key → Free relation (relation.split_free key)
@@ -29,3 +27,8 @@ pub record RelationLaws {E : Type 0} (relation : RelationMeaning E) : Type 0 whe
   pub gather_extracted : (zs t : List ℕ) → Layers relation zs → Free relation t → Shaped relation zs → relation.image zs t ≡ relation.target → relation.extracted (relation.gather zs t) ≡ true
   -- gather undoes split
   pub gather_split : (key : List E) → Key relation key → relation.gather (relation.split_layers key) (relation.split_free key) ≡ key
+
+-- a value that is no key of the statement is refused by one of the key's numbers
+module _ {E : Type 0} (relation : RelationMeaning E) where
+  abbrev pub KeyNumbers : Type 0
+  KeyNumbers = (key : List E) (n : ℕ) → relation.key_fault key ≡ Some n → (21 ≤ n) × (n ≤ 24)

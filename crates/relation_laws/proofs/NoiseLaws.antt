@@ -6,7 +6,7 @@ use Rattle.vectors.specs.Counts.{count}
 use Rattle.vectors.specs.Residues.{below, plus, minus, Residues}
 use Rattle.vectors.proofs.Residues.{all_from_below, below_from_all}
 use Rattle.vectors.proofs.Sums.{plus_comm, plus_residues, minus_residues, plus-minus, minus_plus}
-use Rattle.relation.specs.Laws.{RelationLaws}
+use Rattle.relation.specs.Laws.{RelationLaws, KeyNumbers}
 use Rattle.relation_laws.specs.Products.{ones}
 use Rattle.relation_laws.specs.Statements.{Statement, within}
 use Rattle.relation_laws.specs.Noise.{noise, noise_free, noise_of, noise_key_fault}
@@ -78,9 +78,6 @@ module _ (s : Statement) where
       image_plus = λ zs zs' t t' hz hz' ht ht'.
           ap (λ l. plus s.q l (plus s.q zs zs')) (product-plus s.q s.columns s.rows s.matrix t t' (ht.0 ∙ sym ht'.0))
           ∙ plus-plus s.q (noise_free s t) (noise_free s t') zs zs';
-      key_numbers = λ key n. key_number (eqb (length key) s.columns) _ 21 n (omega arith) (omega arith)
-          (key_number (below 2 key) _ 22 n (omega arith) (omega arith)
-          (key_number (eqb (count 1 (noise_of s key)) s.bound) None 23 n (omega arith) (omega arith) (no_number n)));
       split_layers = λ key h. (noise-whole key, (noise_residues key).1);
       split_free = λ key h. ((noise_key key h).long, subst (λ n. AllByRecursion (λ x. x < n) key) (sym q) (noise_key key h).bits);
       split_shaped = λ key h j l.
@@ -94,6 +91,12 @@ module _ (s : Statement) where
           (record { long = ht.0; bits = subst (λ n. AllByRecursion (λ x. x < n) t) q ht.1; heavy = ap (count 1) (noise_from_image zs t hz e) ∙ count_ones s.bound zs shaped }));
       gather_split = λ key h. refl;
     }
+
+pub noise_numbers : (s : Statement) → KeyNumbers (noise s)
+noise_numbers s key n =
+    key_number (eqb (length key) s.columns) _ 21 n (omega arith) (omega arith)
+    (key_number (below 2 key) _ 22 n (omega arith) (omega arith)
+    (key_number (eqb (count 1 (noise_of s key)) s.bound) None 23 n (omega arith) (omega arith) (no_number n)))
 
 pub noise_lawful : NoiseLawful
 noise_lawful s h =

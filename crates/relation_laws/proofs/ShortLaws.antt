@@ -9,7 +9,7 @@ use Rattle.vectors.specs.Layers.{layer}
 use Rattle.vectors.specs.Lists.{same}
 use Rattle.vectors.specs.Residues.{Residues}
 use Rattle.vectors.proofs.Layers.{length-layer}
-use Rattle.relation.specs.Laws.{RelationLaws}
+use Rattle.relation.specs.Laws.{RelationLaws, KeyNumbers}
 use Rattle.relation_laws.specs.Products.{product}
 use Rattle.relation_laws.specs.Statements.{Statement, within}
 use Rattle.relation_laws.specs.Short.{size, sizes_within, residue, digits, digit_layers, combined, gathered, thirds, short, short_product, short_fault_within}
@@ -103,9 +103,6 @@ module _ (s : Statement) where
           ap (product s.q s.columns s.rows s.matrix) (combined-plus s.q s.columns K zs zs')
           ∙ product-plus s.q s.columns s.rows s.matrix (combined s.q s.columns K zs) (combined s.q s.columns K zs')
           (length-combined s.q s.columns K zs hz.0 ∙ sym (length-combined s.q s.columns K zs' hz'.0));
-      key_numbers = λ key n. key_number (eqb (length key) s.columns) _ 21 n (omega arith) (omega arith)
-          (key_number (sizes_within s.bound key) _ 22 n (omega arith) (omega arith)
-          (key_number (same (short_product s key) s.target) None 24 n (omega arith) (omega arith) (no_number n)));
       split_layers = λ key h. split_residues key (short_key s.bound key h);
       split_free = λ key h. (refl, tt);
       split_shaped = λ key h j l. digit_layers-thirds s.q s.columns key q.0 (short_key s.bound key h).long K j l;
@@ -122,6 +119,12 @@ module _ (s : Statement) where
           }));
       gather_split = λ key h. gather_split key (short_key s.bound key h);
     }
+
+pub short_numbers : (s : Statement) → KeyNumbers (short s)
+short_numbers s key n =
+    key_number (eqb (length key) s.columns) _ 21 n (omega arith) (omega arith)
+    (key_number (sizes_within s.bound key) _ 22 n (omega arith) (omega arith)
+    (key_number (same (short_product s key) s.target) None 24 n (omega arith) (omega arith) (no_number n)))
 
 pub short_lawful : ShortLawful
 short_lawful s h =

@@ -7,7 +7,7 @@ use Rattle.vectors.specs.Counts.{count}
 use Rattle.vectors.specs.Lists.{same}
 use Rattle.vectors.specs.Residues.{below}
 use Rattle.vectors.proofs.Residues.{all_from_below, below_from_all}
-use Rattle.relation.specs.Laws.{RelationLaws}
+use Rattle.relation.specs.Laws.{RelationLaws, KeyNumbers}
 use Rattle.relation_laws.specs.Products.{ones}
 use Rattle.relation_laws.specs.Statements.{Statement, within}
 use Rattle.relation_laws.specs.Weight.{weight, weight_image, weight_key_fault}
@@ -57,10 +57,6 @@ module _ (s : Statement) where
     target_residues = m.target_residues;
     image_residues = λ zs t hz ht. product_residues s.q s.columns s.rows s.matrix zs (omega arith);
     image_plus = λ zs zs' t t' hz hz' ht ht'. product-plus s.q s.columns s.rows s.matrix zs zs' (hz.0 ∙ sym hz'.0);
-    key_numbers = λ key n. key_number (eqb (length key) s.columns) _ 21 n (omega arith) (omega arith)
-        (key_number (below 2 key) _ 22 n (omega arith) (omega arith)
-        (key_number (eqb (count 1 key) s.bound) _ 23 n (omega arith) (omega arith)
-        (key_number (same (weight_image s key) s.target) None 24 n (omega arith) (omega arith) (no_number n))));
     split_layers = λ key h. (whole key h, All-weaker (λ x. x < 2) (λ x. x < s.q) (λ x l. omega arith) key (weight_key key h).bits);
     split_free = λ key h. (refl, tt);
     split_shaped = λ key h j l. ap (ones s.bound) (layer_only s.columns key j (whole key h) l) ∙ ones_from_bits s.bound key (weight_key key h).heavy (weight_key key h).bits;
@@ -74,6 +70,13 @@ module _ (s : Statement) where
     where
       whole : (key : List ℕ) → weight_key_fault s key ≡ None → length key ≡ 1 * s.columns
       whole key h = (weight_key key h).long ∙ sym (one-mul s.columns)
+
+pub weight_numbers : (s : Statement) → KeyNumbers (weight s)
+weight_numbers s key n =
+    key_number (eqb (length key) s.columns) _ 21 n (omega arith) (omega arith)
+    (key_number (below 2 key) _ 22 n (omega arith) (omega arith)
+    (key_number (eqb (count 1 key) s.bound) _ 23 n (omega arith) (omega arith)
+    (key_number (same (weight_image s key) s.target) None 24 n (omega arith) (omega arith) (no_number n))))
 
 pub weight_lawful : WeightLawful
 weight_lawful s h =

@@ -1,7 +1,7 @@
 // The laws of the weight, short and noise relations.
 #![tactic(auto)]
 
-ghost use Rattle.relation_laws.specs.Lawful.{WeightLawful, ShortLawful, NoiseLawful};
+ghost use Rattle.relation_laws.specs.Lawful.{WeightLawful, ShortLawful, NoiseLawful, KeysNumbered};
 
 // Every weight statement that can be made gives a relation with all the laws.
 pub fn weight_is_lawful()
@@ -16,4 +16,9 @@ pub fn short_is_lawful()
 // Every noise statement that can be made gives a relation with all the laws.
 pub fn noise_is_lawful()
     ensures { NoiseLawful }
+{}
+
+// A key outside a statement of each kind is refused by one of the key's numbers.
+pub fn keys_are_numbered()
+    ensures { KeysNumbered }
 {}

@@ -51,7 +51,7 @@ fn difference_below(x: u16, y: u16, q: u16) -> u16
 // Takes q off once, where the number reaches it.
 fn reduced(number: u32, q: u16) -> u16
     requires { number < q + q }
-    ensures { ((number < q → result ≡ number)) × ((q ≤ number → result ≡ number - q)) }
+    ensures { (number < q → result ≡ number) × (q ≤ number → result ≡ number - q) }
 {
     let q = q as u32;
     if number >= q {

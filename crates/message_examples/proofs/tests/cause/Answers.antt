@@ -6,7 +6,7 @@ use Rattle.message_examples.proofs.tests.cause.Goals as goal
 pub answer_cause-requires : goal.answer_cause-requires
 answer_cause-requires c =
     let sizes : Sizes = record { layers = 8; free = 2; width = 4 } in
-    let h = c.in-ok-answer.ensures in
-    let p = residues_placeable sizes c.args.message.now c.args.challenge c.in-ok-answer.answer h.0 h.1 (omega arith) in
-    let s = positions_sized sizes c.args.message.now c.args.challenge c.in-ok-answer.answer h.0 h.1 2 2 refl in
+    let h = c.in_ok-answer.ensures in
+    let p = residues_placeable sizes c.args.message.now c.args.challenge c.in_ok-answer.answer h.0 h.1 (omega arith) in
+    let s = positions_sized sizes c.args.message.now c.args.challenge c.in_ok-answer.answer h.0 h.1 2 2 refl in
     (p, (s, omega arith))

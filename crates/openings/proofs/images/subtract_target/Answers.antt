@@ -1,4 +1,4 @@
-use Rattle.std.proofs.Common.{◌≡◌, true, length, sym, ap, ◌∙◌, ap₂}
+use Rattle.std.proofs.Common.{length, sym, ap, ◌∙◌, ap₂}
 use Rattle.vectors.specs.Residues.{below}
 use Rattle.vectors.proofs.Residues.{below_from_all}
 use Rattle.openings.proofs.images.subtract_target.Goals as goal

@@ -1,4 +1,4 @@
-use Rattle.std.proofs.Common.{◌≡◌, length, ap, ◌∙◌}
+use Rattle.std.proofs.Common.{length, ap, ◌∙◌}
 use Rattle.vectors.specs.Residues.{below}
 use Rattle.vectors.proofs.Residues.{below_from_all}
 use Rattle.openings.proofs.Never.{image_never}

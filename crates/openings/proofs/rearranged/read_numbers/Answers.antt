@@ -1,4 +1,4 @@
-use Rattle.std.proofs.Common.{◌≡◌, length, take, drop, sym, refl, ap, ◌∙◌, rules}
+use Rattle.std.proofs.Common.{length, take, drop, sym, refl, ap, ◌∙◌, rules}
 use Rattle.vectors.proofs.Words.{length_bytes}
 use Rattle.commitment.specs.Messages.{content}
 use Rattle.openings.specs.Shown.{numbers_in}

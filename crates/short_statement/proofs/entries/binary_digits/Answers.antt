@@ -1,4 +1,4 @@
-use Rattle.std.proofs.Common.{◌-◌, sym, ◌∙◌}
+use Rattle.std.proofs.Common.{sym, ◌∙◌}
 use Rattle.short_statement.proofs.Numbers.{digits_step, digits_none}
 use Rattle.short_statement.proofs.entries.binary_digits.Goals as goal
 
