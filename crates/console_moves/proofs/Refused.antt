@@ -1,5 +1,5 @@
 -- The order of the refusals.
-use Rattle.std.proofs.Common.{◌≡◌, ℕ, Bool, true, false, cond, not, ltb, List, Some, None, Option, sym, refl, ◌∙◌, arith}
+use Rattle.std.proofs.Common.{◌≡◌, ℕ, Bool, true, false, cond, not, ltb, List, Some, None, Option, sym, refl, arith}
 use Rattle.std.proofs.lemmas.Bool.{cond-false, not-true}
 use Rattle.relation.specs.Meaning.{RelationMeaning}
 use Rattle.relation.specs.Faults.{split_fault}

@@ -1,5 +1,5 @@
 -- What a verdict says once it is the computed cause.
-use Rattle.std.proofs.Common.{◌≡◌, ℕ, ◌≤◌, true, not, ltb, List, Some, None, Option, sym, refl, ap, ◌∙◌, subst, ap₂, arith}
+use Rattle.std.proofs.Common.{◌≡◌, ℕ, ◌≤◌, true, not, ltb, List, Some, None, Option, sym, ◌∙◌, arith}
 use Rattle.std.proofs.lemmas.Bool.Decides.{nat_tests}
 use Rattle.refusals.specs.declared.cause.Cause.{Cause}
 use Rattle.refusals.specs.declared.cause.Cause.TheVariants.{Reader, ResidueNotBelowModulus, NoPermutation, ShapeMissing, NotOpened}

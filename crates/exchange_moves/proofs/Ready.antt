@@ -17,8 +17,8 @@ use Rattle.messages.specs.declared.fields.Answer.{Answer}
 use Rattle.messages.specs.declared.fields.Answer.TheVariants.{First, Second, Third}
 use Rattle.messages.specs.declared.fields.Field.{Field}
 use Rattle.messages.specs.declared.fields.Sizes.{Sizes}
-use Rattle.messages.specs.Reading.{reading_fault, contents}
-use Rattle.messages.specs.Contents.{Said, said_by, answer_slots, answer_fields, asked, Handed}
+use Rattle.messages.specs.Reading.{contents}
+use Rattle.messages.specs.Contents.{said_by, answer_slots, answer_fields, asked, Handed}
 use Rattle.messages.specs.Checks.{or_else, first_above, field_above, first_unpermuted, answer_above, answer_unpermuted, answer_cause, cause_of}
 use Rattle.messages.proofs.Handing.{handed_sized}
 use Rattle.moves.specs.Moves.{Triple}

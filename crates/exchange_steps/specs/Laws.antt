@@ -1,5 +1,5 @@
 -- What holds over every list of calls of an exchange that was just made.
-use Rattle.std.specs.Prelude.{◌≡◌, ℕ, ◌+◌, ◌%◌, ◌<◌, ◌≢◌, List, [], ◌∷◌, ◌++◌, map, length, None}
+use Rattle.std.specs.Prelude.{◌≡◌, ℕ, ◌+◌, ◌%◌, ◌<◌, ◌≢◌, List, ◌++◌, map, None}
 use Rattle.std.specs.List.{range_with_len, AllByRecursion}
 use Rattle.refusals.specs.declared.refusal.Refusal.TheVariants.{SchemeLimit}
 use Rattle.relation.specs.Meaning.{RelationMeaning}

@@ -1,6 +1,6 @@
 // The sum of 2^j·z_j over the layers z_j, modulo q and in whole numbers.
 ghost use Rattle.std.specs.Prelude.{◌≡◌, ◌+◌, ◌*◌, ◌<◌, ◌≤◌, length, ◌+ℤ◌};
-ghost use Rattle.relation_laws.specs.Short.{size, combined, gathered, signed as Signed-of};
+ghost use Rattle.relation_laws.specs.Short.{size, combined, gathered, signed as signed_of};
 ghost use Rattle.short_statement.specs.Sums.{place_sum as place_sum_of, signed_place_sum as signed_place_sum_of};
 
 // The sum of 2^j times entry i of layer j.
@@ -29,7 +29,7 @@ pub fn combine(layers: &[u16], layer_count: usize, q: u16, out: &mut [u16])
 // The residue as a whole number, with q − 1 read as −1.
 fn signed(residue: u16, q: u16) -> i32
     requires { 0 < q }
-    ensures { result ≡ Signed-of q residue }
+    ensures { result ≡ signed_of q residue }
 {
     if residue == q - 1 { -1 } else { residue as i32 }
 }

@@ -1,6 +1,5 @@
-use Rattle.std.proofs.Common.{◌≡◌, sym, ap, ◌∙◌, subst, arith}
-use Rattle.commitment.specs.Meaning.{SchemeMeaning, Fresh}
-use Rattle.relation.specs.Meaning.{RelationMeaning}
+use Rattle.std.proofs.Common.{sym, ap, ◌∙◌, subst, arith}
+use Rattle.commitment.specs.Meaning.{Fresh}
 use Rattle.answer_openings.proofs.Computed.{lower_not_opened, upper_not_opened, both_opened, rearranged_parts, rearranged_limit}
 use Rattle.answer_openings.proofs.long.open_numbers.Goals as goal
 

@@ -1,4 +1,4 @@
-use Rattle.std.proofs.Common.{◌<◌, sym, ap, ◌∙◌, arith, rules}
+use Rattle.std.proofs.Common.{sym, ap, ◌∙◌, arith, rules}
 use Rattle.vectors.proofs.Failing.{first_failing_more, first_failing_here}
 use Rattle.vectors.proofs.Layers.{row_within}
 use Rattle.answer_openings.proofs.Shaped.{part-layer, shape_never}

@@ -1,4 +1,4 @@
-use Rattle.std.proofs.Common.{◌+◌, ◌*◌, ◌≤◌, length, arith, rules}
+use Rattle.std.proofs.Common.{length, rules}
 use Rattle.console_steps.specs.State.{mask_size, coins_size}
 use Rattle.console.proofs.Room.{row_fits}
 use Rattle.console.proofs.memory.mask_on.Goals as goal

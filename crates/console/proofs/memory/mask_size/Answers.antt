@@ -1,4 +1,4 @@
-use Rattle.std.proofs.Common.{◌*◌, ◌≤◌, rules}
+use Rattle.std.proofs.Common.{rules}
 use Rattle.console.proofs.Room.{entries-bound}
 use Rattle.console.proofs.memory.mask_size.Goals as goal
 

@@ -1,4 +1,4 @@
-use Rattle.std.proofs.Common.{◌≡◌, length}
+use Rattle.std.proofs.Common.{length}
 use Rattle.masks.specs.Mask.{mask_of}
 use Rattle.console_moves.proofs.Asked.{layers-sum_asks, free-sum_asks, layers-sum_residues, free-sum_residues, first_asks, second_asks, third_asks}
 use Rattle.console_moves.proofs.Made.{first-written, second-written, third-written}

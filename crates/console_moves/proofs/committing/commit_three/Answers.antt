@@ -1,4 +1,4 @@
-use Rattle.std.proofs.Common.{◌≡◌, refl, arith}
+use Rattle.std.proofs.Common.{refl, arith}
 use Rattle.masks.specs.Mask.{mask_of}
 use Rattle.console_moves.proofs.Asked.{image_asks, rearranged_asks}
 use Rattle.console_moves.proofs.Made.{same_three, three_made}

@@ -1,4 +1,4 @@
-use Rattle.std.proofs.Common.{◌≡◌, length, arith}
+use Rattle.std.proofs.Common.{length, arith}
 use Rattle.masks.specs.Mask.{mask_of}
 use Rattle.console_moves.proofs.Asked.{layers-sum_asks, layers-sum_residues}
 use Rattle.console_moves.proofs.Made.{message-written}

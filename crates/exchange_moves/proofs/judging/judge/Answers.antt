@@ -1,4 +1,4 @@
-use Rattle.std.proofs.Common.{◌≡◌, sym, refl, ap, ◌∙◌, arith, rules}
+use Rattle.std.proofs.Common.{sym, refl, ◌∙◌, arith, rules}
 use Rattle.exchange_moves.specs.Verdicts.{triple}
 use Rattle.exchange_moves.proofs.Decided.{left_early, no_fault, yes_to}
 use Rattle.exchange_moves.proofs.judging.judge.Goals as goal

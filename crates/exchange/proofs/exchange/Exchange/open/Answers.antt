@@ -1,4 +1,4 @@
-use Rattle.std.proofs.Common.{◌≡◌, [], length, get_or, ap, ◌∙◌, arith, rules}
+use Rattle.std.proofs.Common.{◌≡◌, [], length, get_or, arith, rules}
 use Rattle.exchange.proofs.Rows.{row_suffices}
 use Rattle.exchange.proofs.exchange.Exchange.open.Goals as goal
 
