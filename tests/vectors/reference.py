@@ -15,7 +15,7 @@ from pathlib import Path
 
 HERE = Path(__file__).resolve().parent
 TEXT_FILE = HERE / "vectors.txt"
-CONSTANTS_FILE = HERE.parent.parent / "crates" / "move_examples" / "src" / "vectors.rt"
+CONSTANTS_FILE = HERE.parent.parent / "crates" / "move_examples" / "src" / "cases.rt"
 
 WIDTH = 32
 CHALLENGES = (1, 2, 3)
@@ -825,10 +825,7 @@ def listed(numbers):
 
 CONSTANTS_HEAD = """\
 // What the moves must give on the cases of tests/vectors/vectors.txt. Written by tests/vectors/reference.py, not by hand.
-use crate::expected::Change;
-use crate::expected::Expected;
-use crate::expected::ExpectedAnswer;
-use crate::expected::Stranger;
+use crate::expected::{Change, Expected, ExpectedAnswer, Stranger};
 """
 
 

@@ -3,6 +3,8 @@
 #![tactic(auto)]
 
 #[cfg(test)]
+mod cases;
+#[cfg(test)]
 mod expected;
 #[cfg(test)]
 mod hex;
@@ -20,7 +22,5 @@ mod short;
 mod strangers;
 #[cfg(test)]
 mod stream;
-#[cfg(test)]
-mod vectors;
 #[cfg(test)]
 mod weight;

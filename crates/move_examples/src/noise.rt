@@ -1,8 +1,8 @@
 // Noise statements.
+use crate::cases::{SMALL_NOISE, SQUARE_NOISE, WIDE_NOISE};
 use crate::hex;
 use crate::running::check_case;
 use crate::stream::Stream;
-use crate::vectors::{SMALL_NOISE, SQUARE_NOISE, WIDE_NOISE};
 use noise_statement::noise::Noise;
 use statements::given::Given;
 use std::test::Fail;

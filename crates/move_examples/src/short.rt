@@ -1,8 +1,8 @@
 // Short statements.
+use crate::cases::{LARGE_SHORT, SMALL_SHORT};
 use crate::hex;
 use crate::running::check_case;
 use crate::stream::Stream;
-use crate::vectors::{LARGE_SHORT, SMALL_SHORT};
 use short_statement::short::Short;
 use statements::given::Given;
 use std::test::Fail;

@@ -1,8 +1,8 @@
 // Strangers at the small weight statement: who holds no key can be ready for two of the three challenges, and gets a no to the third.
+use crate::cases::{WRONG_IMAGE, WRONG_MASK, WRONG_SHAPE};
 use crate::expected::Stranger;
 use crate::hex;
 use crate::judged::verdict;
-use crate::vectors::{WRONG_IMAGE, WRONG_MASK, WRONG_SHAPE};
 use messages::challenge::Challenge;
 use statements::given::Given;
 use std::process::Abort;

@@ -1,8 +1,8 @@
 // Weight statements.
+use crate::cases::{LARGE_WEIGHT, SMALL_WEIGHT};
 use crate::hex;
 use crate::running::check_case;
 use crate::stream::Stream;
-use crate::vectors::{LARGE_WEIGHT, SMALL_WEIGHT};
 use statements::given::Given;
 use std::test::Fail;
 use weight_statement::weight::Weight;

@@ -6,8 +6,8 @@ use std::env;
 mod commitments;
 mod drawing;
 mod keys;
-mod moves;
 mod text;
+mod three_moves;
 
 fn run(rt: &HostRuntime) -> anyhow::Result<()> {
     let mut args = env::args(rt)?;
@@ -18,7 +18,7 @@ fn run(rt: &HostRuntime) -> anyhow::Result<()> {
     }
     keys::run(rt)?;
     drawing::run(rt)?;
-    moves::run(rt)
+    three_moves::run(rt)
 }
 
 fn main(rt: HostRuntime) -> anyhow::Result<()> {
