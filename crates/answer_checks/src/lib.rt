@@ -1,64 +1,54 @@
 // Checks on a read answer that need no commitment: residues below the modulus, and lists of positions that are permutations.
 #![tactic(auto)]
 
-ghost use Rattle.std.specs.Prelude.{◌≡◌, ◌+◌, ◌*◌, ◌^◌, ◌<◌, ◌≤◌, length, slice_index};
+ghost use Rattle.std.specs.Prelude.{◌≡◌, ◌+◌, ◌*◌, ◌^◌, ◌<◌, ◌≤◌, length, Some, None, MatchResult};
 ghost use Rattle.vectors.specs.Words.{words};
-ghost use Rattle.vectors.specs.Permutations.{permutes};
 ghost use Rattle.messages.specs.Checks.{first_above, first_unpermuted, or_else, field_above, answer_above, answer_unpermuted, answer_cause};
 ghost use Rattle.answer_checks.specs.Bounds.{Placeable, ResiduesPlaceable, PositionsSized};
 
 use messages::fields::{Answer, Field};
 use refusals::cause::Cause;
+use std::ops::Range;
+use vectors::encoding::read_words;
+use vectors::layout::Layout;
+use vectors::testing::is_permutation;
 
-// The number at place `i` of a content of numbers, two bytes each.
-fn word(content: &[u8], i: usize) -> u16
-    requires { 2 * i + 1 < length content.now }
-    ensures { result ≡ slice_index (words content.now) i }
-{
-    content[2 * i] as u16 * 256 + content[2 * i + 1] as u16
-}
-
-// The offset of the first number of a content that is not below q; the content begins at `offset`.
+// The offset of the first number of a content, two bytes each, that is not below q; the content begins at `offset`.
 pub fn first_above(content: &[u8], q: u16, offset: usize) -> Option<usize>
     requires { offset + length content.now < 2 ^ 64 }
     ensures { result ≡ first_above q offset (words content.now) }
 {
-    for i in 0..content.len() / 2 {
-        if word(content, i) >= q {
-            return Some(offset + 2 * i);
-        }
-    }
-    None
-}
-
-// Says whether the positions of a layer are each of 0 to layer_len - 1 once.
-fn is_permutation(positions: &[u8], layer_len: usize) -> bool
-    requires { (length positions.now ≡ 2 * layer_len) × (layer_len ≤ 768) }
-    ensures { result ≡ permutes layer_len (words positions.now) }
-{
-    let mut seen = [false; 768];
-    for i in 0..layer_len {
-        let position = word(positions, i) as usize;
-        if position >= layer_len || seen[position] {
-            return false;
-        }
-        seen[position] = true;
-    }
-    true
+    let (pairs, _) = content.as_chunks::<2>();
+    pairs
+        .iter()
+        .position(|pair| u16::from_be_bytes(*pair) >= q)
+        .map(|place| offset + 2 * place)
 }
 
 // The first layer, from 0, whose positions are no permutation.
-pub fn first_unpermuted(content: &[u8], layer_len: usize, layer_count: usize) -> Option<usize>
-    requires { (length content.now ≡ 2 * (layer_count * layer_len)) × (layer_len ≤ 768) }
-    ensures { result ≡ first_unpermuted layer_len layer_count (words content.now) }
+pub fn first_unpermuted(content: &[u8], layout: Layout) -> Option<usize>
+    requires { (length content.now ≡ 2 * (layout.layer_count * layout.layer_len)) × (layout.layer_len ≤ 768) }
+    ensures { result ≡ first_unpermuted layout.layer_len layout.layer_count (words content.now) }
 {
-    for layer in 0..layer_count {
-        let from = 2 * (layer * layer_len);
-        if !is_permutation(&content[from..from + 2 * layer_len], layer_len) {
+    let mut memory = [0; 768];
+    let positions = &mut memory[..layout.layer_len];
+    // by the layer's number, which is what is given back; `chunks_exact` refuses empty layers
+    for layer in 0..layout.layer_count {
+        let Range { start, end } = layout.places(layer);
+        read_words(&content[2 * start..2 * end], positions);
+        if !is_permutation(positions) {
             return Some(layer);
         }
     }
     None
+}
+
+// The offset of the first number of a field that is not below q.
+fn field_above(field: Field, q: u16) -> Option<usize>
+    requires { Placeable field }
+    ensures { result ≡ field_above q field.entry }
+{
+    first_above(field.content, q, field.offset + 3)
 }
 
 // The offset of the first number of two fields that is not below q.
@@ -66,10 +56,8 @@ fn fields_above(one: Field, two: Field, q: u16) -> Option<usize>
     requires { (Placeable one) × (Placeable two) }
     ensures { result ≡ or_else (field_above q one.entry) (field_above q two.entry) }
 {
-    if let Some(offset) = first_above(one.content, q, one.offset + 3) {
-        return Some(offset);
-    }
-    first_above(two.content, q, two.offset + 3)
+    // a proof does not learn what a closure under `or_else` returns here; of a right answer both fields are looked at anyway
+    field_above(one, q).or(field_above(two, q))
 }
 
 // The offset of the first residue of an answer that is not below q.
@@ -93,35 +81,27 @@ fn answer_above(answer: &Answer, q: u16) -> Option<usize>
 }
 
 // The first layer of an answer's positions, from 0, that is no permutation.
-fn answer_unpermuted(answer: &Answer, layer_len: usize, layer_count: usize) -> Option<usize>
-    requires { (PositionsSized layer_len layer_count answer.now) × (layer_len ≤ 768) }
-    ensures { result ≡ answer_unpermuted layer_len layer_count answer.now }
+fn answer_unpermuted(answer: &Answer, layout: Layout) -> Option<usize>
+    requires { (PositionsSized layout.layer_len layout.layer_count answer.now) × (layout.layer_len ≤ 768) }
+    ensures { result ≡ answer_unpermuted layout.layer_len layout.layer_count answer.now }
 {
     match *answer {
         Answer::First { .. } => None,
-        Answer::Second { permutations, .. } => first_unpermuted(
-            permutations.content,
-            layer_len,
-            layer_count,
-        ),
-        Answer::Third { permutations, .. } => first_unpermuted(
-            permutations.content,
-            layer_len,
-            layer_count,
-        ),
+        Answer::Second { permutations, .. } | Answer::Third { permutations, .. } =>
+            first_unpermuted(permutations.content, layout),
     }
 }
 
-// The first cause of a no that an answer gives without the commitments: a residue that is not below q, then a list that is no permutation.
-pub fn answer_cause(answer: &Answer, q: u16, layer_len: usize, layer_count: usize) -> Option<Cause>
-    requires { (ResiduesPlaceable answer.now) × ((PositionsSized layer_len layer_count answer.now) × (layer_len ≤ 768)) }
-    ensures { result ≡ answer_cause q layer_len layer_count answer.now }
+// Says no by the first cause that an answer gives without the commitments: a residue that is not below q, then a list that is no permutation.
+pub fn check_answer(answer: &Answer, q: u16, layout: Layout) -> Result<(), Cause>
+    requires { (ResiduesPlaceable answer.now) × ((PositionsSized layout.layer_len layout.layer_count answer.now) × (layout.layer_len ≤ 768)) }
+    ensures { MatchResult result (λ _. answer_cause q layout.layer_len layout.layer_count answer.now ≡ None) (λ cause. answer_cause q layout.layer_len layout.layer_count answer.now ≡ Some cause) }
 {
     if let Some(offset) = answer_above(answer, q) {
-        return Some(Cause::ResidueNotBelowModulus { offset });
+        return Err(Cause::ResidueNotBelowModulus { offset });
     }
-    if let Some(layer) = answer_unpermuted(answer, layer_len, layer_count) {
-        return Some(Cause::NoPermutation { layer });
+    if let Some(layer) = answer_unpermuted(answer, layout) {
+        return Err(Cause::NoPermutation { layer });
     }
-    None
+    Ok(())
 }

@@ -8,22 +8,27 @@ use Rattle.vectors.specs.Words.{bytes, words}
 use Rattle.relation.specs.Meaning.{RelationMeaning, Layers, Free}
 use Rattle.commitment.specs.Meaning.{SchemeMeaning}
 use Rattle.messages.specs.Checks.{or_else}
+use Rattle.openings.specs.declared.images.ImageKind.{ImageKind}
 use Rattle.openings.specs.Shown.{shown_image}
 use Rattle.moves.specs.Moves.{act, with_image}
 use Rattle.answer_openings.specs.declared.opening.Shown.{Shown}
 
--- 88, where the coins and the message do not open the commitment
+-- 88, where the commitment is not opened
+abbrev pub checked_cause : Shown → Bool → Option Cause
+checked_cause shown opened = cond opened None (Some (NotOpened shown.number))
+
+-- the coins and the message open the commitment that is their value
 abbrev pub shown_cause : SchemeMeaning → Shown → List ℕ → Option Cause
-shown_cause scheme shown message = cond (same shown.commitment.now (scheme.value shown.coins.now message)) None (Some (NotOpened shown.number))
+shown_cause scheme shown message = checked_cause shown (same shown.commitment.now (scheme.value shown.coins.now message))
 
 -- the first of two commitments that is not opened
 abbrev pub pair_cause : SchemeMeaning → Shown → List ℕ → Shown → List ℕ → Option Cause
 pair_cause scheme lower message upper message' = or_else (shown_cause scheme lower message) (shown_cause scheme upper message')
 
 -- at challenges 2 and 3, from permutations, layers and a free part
-abbrev pub long_cause : {E : Type 0} → RelationMeaning E → SchemeMeaning → Shown → Shown → Bool → List ℕ → List ℕ → List ℕ → Option Cause
-long_cause relation scheme lower upper less_target p z u =
-    pair_cause scheme lower (with_image relation p (shown_image relation less_target z u)) upper (bytes (act relation p z))
+abbrev pub long_cause : {E : Type 0} → RelationMeaning E → SchemeMeaning → Shown → Shown → ImageKind → List ℕ → List ℕ → List ℕ → Option Cause
+long_cause relation scheme lower upper kind p z u =
+    pair_cause scheme lower (with_image relation p (shown_image relation kind z u)) upper (bytes (act relation p z))
 
 -- the bytes of an answer to challenge 2 or 3 that passed the checks without commitments
 pub record LongReady {E : Type 0} (relation : RelationMeaning E) (width : ℕ) (permutations layers free lower_coins upper_coins : List ℕ) : Type 0 where

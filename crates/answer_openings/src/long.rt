@@ -1,5 +1,6 @@
 // Opening commitment 1 and another one by an answer to challenge 2 or 3.
-ghost use Rattle.std.specs.Prelude.{◌≡◌, ◌*◌, ◌≤◌, length, MatchResult};
+ghost use Rattle.std.specs.Prelude.{◌≡◌, ◌*◌, ◌≤◌, length};
+ghost use Rattle.std.specs.Result.{result_err};
 ghost use Rattle.vectors.specs.Layers.{Permutations};
 ghost use Rattle.vectors.specs.Words.{bytes, words};
 ghost use Rattle.relation.specs.Meaning.{Layers, Free};
@@ -8,15 +9,14 @@ ghost use Rattle.moves.specs.Sizes.{committed_size, work_size};
 ghost use Rattle.answer_openings.specs.Openings.{LongReady, long_cause};
 
 use crate::opening::{Shown, has_value};
-use commitment::part::Part;
 use commitment::scheme::Scheme;
 use messages::fields::Field;
-use openings::decoding::read_words;
-use openings::images::commit_with_image;
+use openings::images::{ImageKind, commit_with_image};
 use openings::rearranged::commit_rearranged;
 use refusals::cause::Cause;
-use refusals::refusal::Refusal;
 use relation::Relation;
+use vectors::encoding::read_words;
+use vectors::part::Part;
 
 // What an answer to challenge 2 or 3 shows beside its coins.
 #[derive(Clone, Copy)]
@@ -38,42 +38,39 @@ impl<'a> LongParts<'a> {
     }
 }
 
-// The lower commitment to the permutations and the image, less the target where that is asked, then the upper one to the layers that
-// the permutations move. Nothing is refused.
+// The lower commitment to the permutations and the image of this kind, then the upper one to the layers that the permutations move.
 pub fn open_long<R: Relation, S: Scheme>(
     relation: &R,
     scheme: &mut S,
     lower: Shown,
     upper: Shown,
     parts: LongParts,
-    less_target: bool,
+    kind: ImageKind,
     work: &mut [u16],
-) -> Result<Option<Cause>, Refusal>
+) -> Result<(), Cause>
     requires ready { LongReady (R.Relation.meaning relation.now) (S.Scheme.meaning scheme.old).width parts.permutations.now parts.layers.now parts.free.now lower.coins.now upper.coins.now }
-    requires room { (committed_size (R.Relation.meaning relation.now) ≤ (S.Scheme.meaning scheme.old).limit) × (length work.old ≡ work_size (R.Relation.meaning relation.now)) }
-    ensures outcome { MatchResult result (λ verdict. (verdict ≡ long_cause (R.Relation.meaning relation.now) (S.Scheme.meaning scheme.old) lower.entry upper.entry less_target (words parts.entry.permutations.now) (words parts.entry.layers.now) (words parts.entry.free.now)) × Fresh (S.Scheme.meaning scheme.old) (S.Scheme.state scheme.new)) (λ _. ⊥) }
+    requires limit { committed_size (R.Relation.meaning relation.now) ≤ (S.Scheme.meaning scheme.old).limit }
+    requires work { length work.old ≡ work_size (R.Relation.meaning relation.now) }
+    ensures verdict { result_err result ≡ long_cause (R.Relation.meaning relation.now) (S.Scheme.meaning scheme.old) lower.entry upper.entry kind (words parts.entry.permutations.now) (words parts.entry.layers.now) (words parts.entry.free.now) }
+    ensures fresh { Fresh (S.Scheme.meaning scheme.old) (S.Scheme.state scheme.new) }
     ensures kept { S.Scheme.meaning scheme.new ≡ S.Scheme.meaning scheme.old }
 {
-    let size = relation.layer_count() * relation.layer_len();
-    let (numbers, rest) = work.split_at_mut(size);
-    read_words(parts.layers, numbers);
-    read_words(parts.free, rest);
-    let mut buffer = [0u8; 128];
-    let width = scheme.width();
+    let (layers, free) = work.split_at_mut(relation.layout().size());
+    read_words(parts.layers, layers);
+    read_words(parts.free, free);
     open_numbers(
         relation,
         scheme,
         lower,
         upper,
         parts.permutations,
-        numbers,
-        rest,
-        less_target,
-        &mut buffer[0..width],
+        layers,
+        free,
+        kind,
     )
 }
 
-// The same once the layers and the free part are numbers; `value` takes the commitments that are computed.
+// The same once the layers and the free part are numbers.
 fn open_numbers<R: Relation, S: Scheme>(
     relation: &R,
     scheme: &mut S,
@@ -82,16 +79,23 @@ fn open_numbers<R: Relation, S: Scheme>(
     permutations: &[u8],
     layers: &[u16],
     free: &[u16],
-    less_target: bool,
-    value: &mut [u8],
-) -> Result<Option<Cause>, Refusal>
-    requires arranged { (length permutations.now ≡ 2 * ((R.Relation.meaning relation.now).layer_count * (R.Relation.meaning relation.now).layer_len)) × ((Permutations (R.Relation.meaning relation.now).layer_len (R.Relation.meaning relation.now).layer_count (words permutations.now)) × (bytes (words permutations.now) ≡ permutations.now)) }
-    requires residues { (Layers (R.Relation.meaning relation.now) layers.now) × ((Free (R.Relation.meaning relation.now) free.now) × (committed_size (R.Relation.meaning relation.now) ≤ (S.Scheme.meaning scheme.old).limit)) }
-    requires widths { (length lower.coins.now ≡ (S.Scheme.meaning scheme.old).width) × ((length upper.coins.now ≡ (S.Scheme.meaning scheme.old).width) × (length value.old ≡ (S.Scheme.meaning scheme.old).width)) }
-    ensures outcome { MatchResult result (λ verdict. (verdict ≡ long_cause (R.Relation.meaning relation.now) (S.Scheme.meaning scheme.old) lower.entry upper.entry less_target (words permutations.now) layers.now free.now) × Fresh (S.Scheme.meaning scheme.old) (S.Scheme.state scheme.new)) (λ _. ⊥) }
+    kind: ImageKind,
+) -> Result<(), Cause>
+    requires permutations_size { length permutations.now ≡ 2 * ((R.Relation.meaning relation.now).layer_count * (R.Relation.meaning relation.now).layer_len) }
+    requires permuting { Permutations (R.Relation.meaning relation.now).layer_len (R.Relation.meaning relation.now).layer_count (words permutations.now) }
+    requires permutations_bytes { bytes (words permutations.now) ≡ permutations.now }
+    requires layers { Layers (R.Relation.meaning relation.now) layers.now }
+    requires free { Free (R.Relation.meaning relation.now) free.now }
+    requires limit { committed_size (R.Relation.meaning relation.now) ≤ (S.Scheme.meaning scheme.old).limit }
+    requires lower { length lower.coins.now ≡ (S.Scheme.meaning scheme.old).width }
+    requires upper { length upper.coins.now ≡ (S.Scheme.meaning scheme.old).width }
+    ensures verdict { result_err result ≡ long_cause (R.Relation.meaning relation.now) (S.Scheme.meaning scheme.old) lower.entry upper.entry kind (words permutations.now) layers.now free.now }
+    ensures fresh { Fresh (S.Scheme.meaning scheme.old) (S.Scheme.state scheme.new) }
     ensures kept { S.Scheme.meaning scheme.new ≡ S.Scheme.meaning scheme.old }
 {
     let positions = Part::Bytes(permutations);
+    let mut buffer = [0u8; 128];
+    let value = &mut buffer[0..scheme.width()];
     commit_with_image(
         relation,
         scheme,
@@ -99,29 +103,11 @@ fn open_numbers<R: Relation, S: Scheme>(
         positions,
         layers,
         free,
-        less_target,
+        kind,
         value,
-    )?;
-    if !has_value(lower, value) {
-        return Ok(Some(Cause::NotOpened {
-            commitment: lower.number,
-        }));
-    }
-    let layer_len = relation.layer_len();
-    let layer_count = relation.layer_count();
-    commit_rearranged(
-        scheme,
-        upper.coins,
-        positions,
-        layers,
-        layer_len,
-        layer_count,
-        value,
-    )?;
-    if !has_value(upper, value) {
-        return Ok(Some(Cause::NotOpened {
-            commitment: upper.number,
-        }));
-    }
-    Ok(None)
+    );
+    lower.check(has_value(lower, value))?;
+    let layout = relation.layout();
+    commit_rearranged(scheme, upper.coins, positions, layers, layout, value);
+    upper.check(has_value(upper, value))
 }

@@ -1,13 +1,8 @@
 -- A message given in parts.
 use Rattle.std.specs.Prelude.{ℕ, cond, List, [], ◌∷◌, ◌++◌, length, Some, None, Option, ◌==◌, nat_lt}
-use Rattle.vectors.specs.Words.{bytes}
-use Rattle.commitment.specs.declared.part.Part.{Part}
-use Rattle.commitment.specs.declared.part.Part.TheVariants.{Bytes, Words}
+use Rattle.vectors.specs.declared.part.Part.{Part}
+use Rattle.vectors.specs.Parts.{content}
 use Rattle.commitment.specs.Meaning.{SchemeMeaning}
-
-abbrev pub content : Part → List ℕ
-content (Bytes part) = part.now
-content (Words part) = bytes part.now
 
 -- the contents of the parts, one after another
 abbrev pub message : List Part → List ℕ

@@ -4,7 +4,8 @@ ghost use Rattle.refusals.specs.Answers.{Answered};
 ghost use Rattle.vectors.specs.Lists.{same};
 ghost use Rattle.vectors.specs.Words.{bytes};
 ghost use Rattle.commitment.specs.Meaning.{Fresh, Fed, feed_fault};
-ghost use Rattle.commitment.specs.Messages.{content, message, commit_fault, open_fault};
+ghost use Rattle.vectors.specs.Parts.{content};
+ghost use Rattle.commitment.specs.Messages.{message, commit_fault, open_fault};
 
 use crate::part::Part;
 use crate::scheme::Scheme;
@@ -12,17 +13,13 @@ use refusals::refusal::Refusal;
 use vectors::encoding::write_words;
 
 // The room that a part leaves, if it fits.
+#[tactic(auto, using(vectors::proofs::Words::length_bytes))]
 fn room_behind(part: &Part, room: usize) -> Option<usize>
     ensures { result ≡ (if ltb room (length (content part.now)) then None else Some (room - length (content part.now))) }
 {
     match part {
         Part::Bytes(bytes) => room.checked_sub(bytes.len()),
-        Part::Words(words) => {
-            if words.len() > room / 2 {
-                return None;
-            }
-            Some(room - 2 * words.len())
-        }
+        Part::Words(words) => room.checked_sub(words.len().checked_mul(2)?),
     }
 }
 
@@ -30,17 +27,14 @@ fn room_behind(part: &Part, room: usize) -> Option<usize>
 fn passes(parts: &[Part], limit: usize) -> bool
     ensures { result ≡ nat_lt limit (length (message parts.now)) }
 {
-    let mut room = limit;
-    for part in parts {
-        let Some(left) = room_behind(part, room) else {
-            return true;
-        };
-        room = left;
-    }
-    false
+    parts
+        .iter()
+        .try_fold(limit, |room, part| room_behind(part, room))
+        .is_none()
 }
 
 // Feeds numbers as two bytes each, the high byte first.
+#[tactic(auto, using(vectors::proofs::Words::length_bytes))]
 pub fn feed_words<S: Scheme>(scheme: &mut S, words: &[u16]) -> Result<(), Refusal>
     ensures outcome { Answered (feed_fault (S.Scheme.state scheme.old) (length (bytes words.now))) result (λ _. Fed (S.Scheme.state scheme.old) (bytes words.now) (S.Scheme.state scheme.new)) (scheme.new ≡ scheme.old) }
     ensures kept { S.Scheme.meaning scheme.new ≡ S.Scheme.meaning scheme.old }
@@ -49,12 +43,9 @@ pub fn feed_words<S: Scheme>(scheme: &mut S, words: &[u16]) -> Result<(), Refusa
         return Err(Refusal::MessageLimit);
     }
     let mut buffer = [0u8; 128];
-    let mut done = 0;
-    while done < words.len() {
-        let count = (words.len() - done).min(64);
-        write_words(&words[done..done + count], &mut buffer, 0);
-        scheme.feed(&buffer[0..2 * count])?;
-        done += count;
+    for piece in words.chunks(64) {
+        write_words(piece, &mut buffer, 0);
+        scheme.feed(&buffer[..2 * piece.len()])?;
     }
     Ok(())
 }
@@ -69,6 +60,7 @@ fn feed_part<S: Scheme>(scheme: &mut S, part: &Part) -> Result<(), Refusal>
     }
 }
 
+// Nothing is refused, since the room suffices; the Result is that of each feeding, handed on.
 fn feed_parts<S: Scheme>(scheme: &mut S, parts: &[Part]) -> Result<(), Refusal>
     requires { length (message parts.now) ≤ (S.Scheme.state scheme.old).room }
     ensures outcome { MatchResult result (λ _. Fed (S.Scheme.state scheme.old) (message parts.now) (S.Scheme.state scheme.new)) (λ _. ⊥) }
@@ -102,8 +94,7 @@ pub fn commit<S: Scheme>(
     }
     scheme.start(coins)?;
     feed_parts(scheme, parts)?;
-    scheme.finish(out)?;
-    Ok(())
+    scheme.finish(out)
 }
 
 fn opens_within<S: Scheme>(
@@ -134,5 +125,5 @@ pub fn opens<S: Scheme>(
 {
     let mut buffer = [0u8; 128];
     let width = scheme.width();
-    opens_within(scheme, commitment, coins, parts, &mut buffer[0..width])
+    opens_within(scheme, commitment, coins, parts, &mut buffer[..width])
 }

@@ -1,30 +1,27 @@
 // A console and its four calls. The lines' memory is lent to each call: numbers (permutations, R, v, line after line) and, apart
-// from them, coins.
-ghost use Rattle.std.specs.Prelude.{◌≡◌, ◌*◌, ◌<◌, ◌≤◌, length, replicate};
-ghost use Rattle.std.specs.Option.{option_map};
-ghost use Rattle.refusals.specs.Answers.{Answered};
-ghost use Rattle.refusals.specs.Numbers.{number};
+// from them, coins. They are two parameters: commit borrows both as they are and the other calls to be written, so that one struct
+// for them would be two.
+ghost use Rattle.std.specs.Prelude.{◌≡◌, ◌+◌, ◌*◌, ◌<◌, ◌≤◌, length};
+ghost use Rattle.refusals.specs.Answers.{Answered, Ends};
 ghost use Rattle.vectors.specs.Over.{zeros};
 ghost use Rattle.commitment.specs.Meaning.{Fresh};
-ghost use Rattle.masks.specs.Mask.{mask_of};
+ghost use Rattle.masks.specs.Held.{mask_in};
 ghost use Rattle.moves.specs.Sizes.{limit_fault};
-ghost use Rattle.console_steps.specs.declared.lines.Line.TheVariants.{Free};
-ghost use Rattle.console_steps.specs.State.{console_state, mask_size, coins_size, cleared};
-ghost use Rattle.console_steps.specs.Steps.{load_fault, load_step, commit_step, answer_step, burn_step};
-ghost use Rattle.console.specs.Told.{any_slip, told_load, told_commit, told_answer, told_burn, Ends, Leaves};
-ghost use Rattle.console.specs.Carrying.{carry_fault};
+ghost use Rattle.console_steps.specs.State.{mask_size, coins_size, cleared};
+ghost use Rattle.console_steps.specs.Steps.{load_fault, load_step, carry_fault, commit_step, answer_step, burn_step};
+ghost use Rattle.console.specs.Told.{state_of, IsNew, Keeps, any_slip, told_load, told_commit, told_answer, told_burn, Leaves};
 
-use crate::memory::{coins_size, copy_three, is_short, mask_on, mask_size};
+use crate::memory::{coins_size, is_short, mask_on, mask_size};
 use crate::slips::{AnySlip, CommittedSlip, LoadedSlip};
 use commitment::scheme::Scheme;
 use console_moves::answering::answer;
 use console_moves::committing::commit;
 use console_steps::lines::Line;
-use masks::check::check_mask;
-use openings::limits::limit_suffices;
+use masks::mask::Mask;
+use openings::limits::check_limit;
 use refusals::refusal::Refusal;
 use relation::Relation;
-use vectors::parts::{copy_part, fill_part};
+use vectors::parts::{copy_part, copy_three, fill_part};
 use vectors::zeroing::ZeroOnDrop;
 
 // A relation, a scheme, the states of lines 0 to 3, and how many loads were done.
@@ -39,11 +36,9 @@ pub struct Console<R, S> {
 impl<R: Relation + Drop, S: Scheme + Drop> Console<R, S> {
     // A console with free lines and no loads. Refuses a scheme whose limit is too small for the relation's messages.
     pub fn new(relation: R, scheme: S) -> Result<Console<R, S>, Refusal>
-        ensures { Answered (limit_fault (R.Relation.meaning relation) (S.Scheme.meaning scheme)) result (λ console. (console.relation ≡ relation) × (console.scheme ≡ scheme) × (console.lines ≡ replicate 4 Free) × (console.loads ≡ 0)) (Unit {0}) }
+        ensures { Answered (limit_fault (R.Relation.meaning relation) (S.Scheme.meaning scheme)) result (λ console. IsNew console relation scheme) (Unit {0}) }
     {
-        if !limit_suffices(&relation, &scheme) {
-            return Err(Refusal::SchemeLimit);
-        }
+        check_limit(&relation, &scheme)?;
         Ok(Console {
             relation,
             scheme,
@@ -60,75 +55,48 @@ impl<R: Relation, S: Scheme> Console<R, S> {
         numbers: &mut [u16],
         coins: &mut [u8],
         line: usize,
-        permutations: &[u16],
-        layers: &[u16],
-        free: &[u16],
-        mask_coins: &[u8],
+        mask: Mask,
     ) -> Result<LoadedSlip, Refusal>
-        ensures ends { Ends (told_load result) (console_state self.new.lines self.new.loads numbers.new coins.new)
-            (load_step (R.Relation.meaning self.old.relation) (S.Scheme.meaning self.old.scheme) (console_state self.old.lines self.old.loads numbers.old coins.old) line (mask_of permutations.now layers.now free.now mask_coins.now)) }
-        ensures kept { (self.new.relation ≡ self.old.relation) × (self.new.scheme ≡ self.old.scheme) }
+        ensures ends { Ends (told_load result) (state_of self.new numbers.new coins.new)
+            (load_step (R.Relation.meaning self.old.relation) (S.Scheme.meaning self.old.scheme) (state_of self.old numbers.old coins.old) line (mask_in mask.entry)) }
+        ensures kept { Keeps self.old self.new }
     {
-        if let Some(refusal) = self.load_fault(
-            numbers,
-            coins,
-            line,
-            permutations,
-            layers,
-            free,
-            mask_coins,
-        ) {
-            return Err(refusal);
-        }
+        let count = self.load_number(numbers, coins, line, mask)?;
         copy_three(
             numbers,
             line * mask_size(&self.relation),
-            permutations,
-            layers,
-            free,
+            mask.permutations,
+            mask.layers,
+            mask.free,
         );
-        copy_part(coins, line * coins_size(&self.scheme), mask_coins);
-        let count = self.loads + 1;
+        copy_part(coins, line * coins_size(&self.scheme), mask.coins);
         self.loads = count;
         self.lines[line] = Line::Loaded(count);
         Ok(LoadedSlip { line, count })
     }
 
-    fn load_fault(
+    // The number of a load of this mask onto this line, or why it is refused.
+    fn load_number(
         &self,
         numbers: &[u16],
         coins: &[u8],
         line: usize,
-        permutations: &[u16],
-        layers: &[u16],
-        free: &[u16],
-        mask_coins: &[u8],
-    ) -> Option<Refusal>
-        ensures { option_map number result ≡ load_fault (R.Relation.meaning self.now.relation) (S.Scheme.meaning self.now.scheme) (console_state self.now.lines self.now.loads numbers.now coins.now) line (mask_of permutations.now layers.now free.now mask_coins.now) }
+        mask: Mask,
+    ) -> Result<u16, Refusal>
+        ensures { Answered (load_fault (R.Relation.meaning self.now.relation) (S.Scheme.meaning self.now.scheme) (state_of self.now numbers.now coins.now) line (mask_in mask.entry)) result
+            (λ count. count ≡ self.now.loads + 1) (Unit {0}) }
     {
         if is_short(&self.relation, &self.scheme, numbers, coins) {
-            return Some(Refusal::LineMemoryShort);
+            return Err(Refusal::LineMemoryShort);
         }
         if line > 3 {
-            return Some(Refusal::NoSuchConsoleLine);
+            return Err(Refusal::NoSuchConsoleLine);
         }
-        let Line::Free = self.lines[line] else {
-            return Some(Refusal::ConsoleLineInUse);
-        };
-        if let Err(refusal) = check_mask(
-            &self.relation,
-            &self.scheme,
-            permutations,
-            layers,
-            free,
-            mask_coins,
-        ) {
-            return Some(refusal);
+        if self.lines[line] != Line::Free {
+            return Err(Refusal::ConsoleLineInUse);
         }
-        if self.loads == 65535 {
-            return Some(Refusal::LoadsUsedUp);
-        }
-        None
+        mask.check(&self.relation, &self.scheme)?;
+        self.loads.checked_add(1).ok_or(Refusal::LoadsUsedUp)
     }
 
     // Writes the commitments message of the slip's mask at the start of the output, and says how long it is.
@@ -141,32 +109,20 @@ impl<R: Relation, S: Scheme> Console<R, S> {
         work: &mut [u16],
         out: &mut [u8],
     ) -> Result<(CommittedSlip, usize), (LoadedSlip, Refusal)>
-        ensures ends { Ends (told_commit result) (console_state self.new.lines self.new.loads numbers.now coins.now, out.new)
-            (commit_step (R.Relation.meaning self.old.relation) (S.Scheme.meaning self.old.scheme) (console_state self.old.lines self.old.loads numbers.now coins.now) slip.line slip.count key.now (length work.old) out.old) }
-        ensures kept { (self.new.relation ≡ self.old.relation) × ((S.Scheme.meaning self.new.scheme ≡ S.Scheme.meaning self.old.scheme) × (Leaves result (Fresh (S.Scheme.meaning self.old.scheme) (S.Scheme.state self.new.scheme)) (self.new.scheme ≡ self.old.scheme))) }
+        ensures ends { Ends (told_commit result) (state_of self.new numbers.now coins.now, out.new)
+            (commit_step (R.Relation.meaning self.old.relation) (S.Scheme.meaning self.old.scheme) (state_of self.old numbers.now coins.now) slip.line slip.count key.now (length work.old) out.old) }
+        ensures kept { self.new.relation ≡ self.old.relation }
+        ensures meaning { S.Scheme.meaning self.new.scheme ≡ S.Scheme.meaning self.old.scheme }
+        ensures scheme { Leaves result (Fresh (S.Scheme.meaning self.old.scheme) (S.Scheme.state self.new.scheme)) (self.new.scheme ≡ self.old.scheme) }
         ensures zeroed { work.new ≡ zeros (length work.old) }
     {
         let guard = ZeroOnDrop { area: work };
-        if let Some(refusal) = self.slip_fault(
-            numbers,
-            coins,
-            slip.line,
-            Line::Loaded(slip.count),
-        ) {
+        let state = Line::Loaded(slip.count);
+        if let Err(refusal) = self.check_slip(numbers, coins, slip.line, state) {
             return Err((slip, refusal));
         }
         let mask = mask_on(&self.relation, &self.scheme, numbers, coins, slip.line);
-        match commit(
-            &self.relation,
-            &mut self.scheme,
-            key,
-            mask.permutations,
-            mask.layers,
-            mask.free,
-            mask.coins,
-            guard.area,
-            out,
-        ) {
+        match commit(&self.relation, &mut self.scheme, key, mask, guard.area, out) {
             Ok(size) => {
                 let LoadedSlip { line, count } = slip;
                 self.lines[line] = Line::Committed(count);
@@ -176,7 +132,8 @@ impl<R: Relation, S: Scheme> Console<R, S> {
         }
     }
 
-    // Writes the answer to the challenge with this number, zeroes the slip's mask and frees its line.
+    // Writes the answer to the challenge with this number, zeroes the slip's mask and frees its line. Every number may be passed; those
+    // of no challenge are refused.
     pub fn answer(
         &mut self,
         numbers: &mut [u16],
@@ -187,18 +144,14 @@ impl<R: Relation, S: Scheme> Console<R, S> {
         work: &mut [u16],
         out: &mut [u8],
     ) -> Result<usize, (CommittedSlip, Refusal)>
-        ensures ends { Ends (told_answer result) (console_state self.new.lines self.new.loads numbers.new coins.new, out.new)
-            (answer_step (R.Relation.meaning self.old.relation) (S.Scheme.meaning self.old.scheme) (console_state self.old.lines self.old.loads numbers.old coins.old) slip.line slip.count key.now challenge (length work.old) out.old) }
-        ensures kept { (self.new.relation ≡ self.old.relation) × (self.new.scheme ≡ self.old.scheme) }
+        ensures ends { Ends (told_answer result) (state_of self.new numbers.new coins.new, out.new)
+            (answer_step (R.Relation.meaning self.old.relation) (S.Scheme.meaning self.old.scheme) (state_of self.old numbers.old coins.old) slip.line slip.count key.now challenge (length work.old) out.old) }
+        ensures kept { Keeps self.old self.new }
         ensures zeroed { work.new ≡ zeros (length work.old) }
     {
         let guard = ZeroOnDrop { area: work };
-        if let Some(refusal) = self.slip_fault(
-            numbers,
-            coins,
-            slip.line,
-            Line::Committed(slip.count),
-        ) {
+        let state = Line::Committed(slip.count);
+        if let Err(refusal) = self.check_slip(numbers, coins, slip.line, state) {
             return Err((slip, refusal));
         }
         let mask = mask_on(&self.relation, &self.scheme, numbers, coins, slip.line);
@@ -206,10 +159,7 @@ impl<R: Relation, S: Scheme> Console<R, S> {
             &self.relation,
             &self.scheme,
             key,
-            mask.permutations,
-            mask.layers,
-            mask.free,
-            mask.coins,
+            mask,
             challenge,
             guard.area,
             out,
@@ -230,12 +180,12 @@ impl<R: Relation, S: Scheme> Console<R, S> {
         coins: &mut [u8],
         slip: AnySlip,
     ) -> Result<(), (AnySlip, Refusal)>
-        ensures ends { Ends (told_burn result) (console_state self.new.lines self.new.loads numbers.new coins.new)
-            (burn_step (R.Relation.meaning self.old.relation) (S.Scheme.meaning self.old.scheme) (console_state self.old.lines self.old.loads numbers.old coins.old) (any_slip slip)) }
-        ensures kept { (self.new.relation ≡ self.old.relation) × (self.new.scheme ≡ self.old.scheme) }
+        ensures ends { Ends (told_burn result) (state_of self.new numbers.new coins.new)
+            (burn_step (R.Relation.meaning self.old.relation) (S.Scheme.meaning self.old.scheme) (state_of self.old numbers.old coins.old) (any_slip slip)) }
+        ensures kept { Keeps self.old self.new }
     {
         let line = slip.line();
-        if let Some(refusal) = self.slip_fault(numbers, coins, line, slip.state()) {
+        if let Err(refusal) = self.check_slip(numbers, coins, line, slip.state()) {
             return Err((slip, refusal));
         }
         slip.spend();
@@ -243,36 +193,34 @@ impl<R: Relation, S: Scheme> Console<R, S> {
         Ok(())
     }
 
-    // Refuses short memory, and a line that is not in this state.
-    fn slip_fault(&self, numbers: &[u16], coins: &[u8], line: usize, state: Line) -> Option<Refusal>
-        ensures { option_map number result ≡ carry_fault (R.Relation.meaning self.now.relation) (S.Scheme.meaning self.now.scheme) (console_state self.now.lines self.now.loads numbers.now coins.now) line state }
+    // Refuses short memory, and a line that is not in this state. Callers pair the refusal with their slip by hand: a closure for
+    // `map_err` would take the slip, which is needed on both ways.
+    fn check_slip(
+        &self,
+        numbers: &[u16],
+        coins: &[u8],
+        line: usize,
+        state: Line,
+    ) -> Result<(), Refusal>
+        ensures { Answered (carry_fault (R.Relation.meaning self.now.relation) (S.Scheme.meaning self.now.scheme) (state_of self.now numbers.now coins.now) line state) result (λ _. Unit {0}) (Unit {0}) }
     {
         if is_short(&self.relation, &self.scheme, numbers, coins) {
-            return Some(Refusal::LineMemoryShort);
+            return Err(Refusal::LineMemoryShort);
         }
-        if line > 3 {
-            return Some(Refusal::SlipNotCarried);
+        if line > 3 || self.lines[line] != state {
+            return Err(Refusal::SlipNotCarried);
         }
-        let carried = match (self.lines[line], state) {
-            (Line::Free, Line::Free) => true,
-            (Line::Loaded(held), Line::Loaded(asked)) => held == asked,
-            (Line::Committed(held), Line::Committed(asked)) => held == asked,
-            _ => false,
-        };
-        if carried {
-            None
-        } else {
-            Some(Refusal::SlipNotCarried)
-        }
+        Ok(())
     }
 
     // Zeroes the line's mask and frees the line.
+    #[tactic(auto, using(crate::proofs::Room::row_fits))]
     fn clear(&mut self, numbers: &mut [u16], coins: &mut [u8], line: usize)
         requires line_in_range { line < 4 }
         requires numbers_suffice { 4 * mask_size (R.Relation.meaning self.old.relation) (S.Scheme.meaning self.old.scheme) ≤ length numbers.old }
         requires coins_suffice { 4 * coins_size (R.Relation.meaning self.old.relation) (S.Scheme.meaning self.old.scheme) ≤ length coins.old }
-        ensures ends { (console_state self.new.lines self.new.loads numbers.new coins.new) ≡ cleared (R.Relation.meaning self.old.relation) (S.Scheme.meaning self.old.scheme) (console_state self.old.lines self.old.loads numbers.old coins.old) line }
-        ensures kept { (self.new.relation ≡ self.old.relation) × (self.new.scheme ≡ self.old.scheme) }
+        ensures ends { state_of self.new numbers.new coins.new ≡ cleared (R.Relation.meaning self.old.relation) (S.Scheme.meaning self.old.scheme) (state_of self.old numbers.old coins.old) line }
+        ensures kept { Keeps self.old self.new }
     {
         let mask_len = mask_size(&self.relation);
         let coins_len = coins_size(&self.scheme);

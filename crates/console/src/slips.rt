@@ -6,6 +6,8 @@ ghost use Rattle.console.specs.Told.{any_slip};
 
 use console_steps::lines::Line;
 
+// One struct over the line's state would be no plainer: each literal and pattern would hold a PhantomData as well.
+
 // The line holds a mask, and nothing is committed to yet.
 pub struct LoadedSlip {
     pub(crate) line: usize,

@@ -2,5 +2,4 @@
 #![tactic(auto)]
 
 pub mod answering;
-mod coins;
 pub mod committing;

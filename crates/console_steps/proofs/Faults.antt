@@ -15,6 +15,9 @@ use Rattle.console_steps.specs.declared.lines.Line.TheVariants.{Free, Loaded, Co
 use Rattle.console_steps.specs.State.{ConsoleState, Slip, slip_line, slip_state, same_line, line_at, mask_on, mask_size, coins_size, memory_fault}
 use Rattle.console_steps.specs.Steps.{line_fault, free_fault, loads_fault, load_fault, slip_fault, commit_fault, answer_fault}
 
+pub impossible : {P : Type 0} → ◌≡◌ {A = ℕ} 0 1 → P
+impossible e = absurd (omega arith)
+
 same_line_is : (a b : Line) → same_line a b ≡ true → a ≡ b
 same_line_is Free Free h = refl
 same_line_is Free (Loaded n) h = absurd (false≢true h)
@@ -27,7 +30,7 @@ same_line_is (Committed m) (Loaded n) h = absurd (false≢true h)
 same_line_is (Committed m) (Committed n) h = let e = eqb-true m n h in cc
 
 cond_none : (b : Bool) (n : ℕ) → cond b (Some n) None ≡ None → b ≡ false
-cond_none true n e = let z : ◌≡◌ {A = ℕ} 0 1 = cc in absurd (omega arith)
+cond_none true n e = impossible (cc)
 cond_none false n e = refl
 
 -- a fault that is not told by 56

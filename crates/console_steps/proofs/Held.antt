@@ -12,15 +12,15 @@ use Rattle.console_steps.specs.State.{ConsoleState, console_state, slip_line, pa
 use Rattle.console_steps.specs.Runs.{Call, Event, History, untouched, holding, ended, after, event, run, events, next, history}
 use Rattle.console_steps.specs.Laws.{Holds}
 use Rattle.console_steps.proofs.Rows.{part-part, row_over, row_kept}
-use Rattle.console_steps.proofs.Faults.{Room}
+use Rattle.console_steps.proofs.Faults.{impossible, Room}
 use Rattle.console_steps.proofs.Ways.{Way, stays, brings, commits_to, replies, clears, four_after, way}
 
 -- a mask from a line's numbers and its coins
-abbrev mask_in : (size free : ℕ) (row coins : List ℕ) → Mask
-mask_in size free row coins = mask_of (take size row) (part size size row) (part (size + size) free row) coins
+abbrev mask_of_rows : (size free : ℕ) (row coins : List ℕ) → Mask
+mask_of_rows size free row coins = mask_of (take size row) (part size size row) (part (size + size) free row) coins
 
 mask_of_row : (at size free : ℕ) (xs coins : List ℕ)
-    → mask_of (part at size xs) (part (at + size) size xs) (part (at + size + size) free xs) coins ≡ mask_in size free (part at (2 * size + free) xs) coins
+    → mask_of (part at size xs) (part (at + size) size xs) (part (at + size + size) free xs) coins ≡ mask_of_rows size free (part at (2 * size + free) xs) coins
 mask_of_row at size free xs coins =
     let a : part at size xs ≡ take size (part at (2 * size + free) xs) = sym (take-take size (2 * size + free) (drop at xs) (omega arith)) in
     let b = part-part at (2 * size + free) size size xs (omega arith) in
@@ -28,7 +28,7 @@ mask_of_row at size free xs coins =
     let e : at + (size + size) ≡ at + size + size = omega arith in
     cc
 
-mask_written : (size free : ℕ) (ps ls fs coins : List ℕ) → length ps ≡ size → length ls ≡ size → length fs ≡ free → mask_in size free (ps ++ (ls ++ fs)) coins ≡ mask_of ps ls fs coins
+mask_written : (size free : ℕ) (ps ls fs coins : List ℕ) → length ps ≡ size → length ls ≡ size → length fs ≡ free → mask_of_rows size free (ps ++ (ls ++ fs)) coins ≡ mask_of ps ls fs coins
 mask_written size free ps ls fs coins p l f =
     let a = take_at ps (ls ++ fs) size p in
     let b : part size size (ps ++ (ls ++ fs)) ≡ ls = ap (take size) (drop_at ps (ls ++ fs) size p) ∙ take_at ls fs size l in
@@ -43,7 +43,7 @@ module _ {E : Type 0} (relation : RelationMeaning E) (scheme : SchemeMeaning) wh
   abbrev coins_of : ConsoleState → ℕ → List ℕ
   coins_of s line = part (coins_start relation scheme line) (coins_size relation scheme) s.coins
 
-  mask_from_rows : (s : ConsoleState) (line : ℕ) → mask_on relation scheme s line ≡ mask_in (relation.layer_count * relation.layer_len) relation.free_len (numbers_of s line) (coins_of s line)
+  mask_from_rows : (s : ConsoleState) (line : ℕ) → mask_on relation scheme s line ≡ mask_of_rows (relation.layer_count * relation.layer_len) relation.free_len (numbers_of s line) (coins_of s line)
   mask_from_rows s line = mask_of_row (numbers_start relation scheme line) (relation.layer_count * relation.layer_len) relation.free_len s.numbers (coins_of s line)
 
   -- two states have the same on a line
@@ -56,7 +56,7 @@ module _ {E : Type 0} (relation : RelationMeaning E) (scheme : SchemeMeaning) wh
   holds_same start s t line untouched k p = (k.state ∙ p.0, k.numbers ∙ p.1, k.coins ∙ p.2)
   holds_same start s t line (holding count mask) k p = (
     ⊎_elim (λ (x : line_at s line ≡ Loaded count). inl (k.state ∙ x)) (λ (x : line_at s line ≡ Committed count). inr (k.state ∙ x)) p.0,
-    mask_from_rows t line ∙ ap₂ (mask_in (relation.layer_count * relation.layer_len) relation.free_len) k.numbers k.coins ∙ sym (mask_from_rows s line) ∙ p.1,
+    mask_from_rows t line ∙ ap₂ (mask_of_rows (relation.layer_count * relation.layer_len) relation.free_len) k.numbers k.coins ∙ sym (mask_from_rows s line) ∙ p.1,
   )
   holds_same start s t line ended k p = (k.state ∙ p.0, k.numbers ∙ p.1, k.coins ∙ p.2)
 
@@ -94,7 +94,7 @@ module _ {E : Type 0} (relation : RelationMeaning E) (scheme : SchemeMeaning) wh
     holds_loaded t line count mask formed w =
         let size = relation.layer_count * relation.layer_len in (
           inl w.state_is,
-          mask_from_rows t line ∙ ap₂ (mask_in size relation.free_len) w.numbers_are w.coins_are
+          mask_from_rows t line ∙ ap₂ (mask_of_rows size relation.free_len) w.numbers_are w.coins_are
               ∙ mask_written size relation.free_len mask.permutations mask.layers mask.free mask.coins formed.permutations.size formed.layers.0 formed.free.0,
         )
 
@@ -108,13 +108,13 @@ module _ {E : Type 0} (relation : RelationMeaning E) (scheme : SchemeMeaning) wh
     committed_state line count = console_state (set s.lines line (Committed count)) s.loads s.numbers s.coins
 
     holds_committed_here : (line count : ℕ) → line < length s.lines → line_at s line ≡ Loaded count → (h : History) → Holds relation scheme start s line h → Holds relation scheme start (committed_state line count) line h
-    holds_committed_here line count inside e untouched p = let q = p.0 in let z : ◌≡◌ {A = ℕ} 0 1 = cc in absurd (omega arith)
+    holds_committed_here line count inside e untouched p = let q = p.0 in impossible (cc)
     holds_committed_here line count inside e (holding number mask) p =
         let t = get_or-set_same s.lines line (Committed count) Free inside in (
-          ⊎_elim (λ (x : line_at s line ≡ Loaded number). inr (cc)) (λ (x : line_at s line ≡ Committed number). let z : ◌≡◌ {A = ℕ} 0 1 = cc in absurd (omega arith)) p.0,
+          ⊎_elim (λ (x : line_at s line ≡ Loaded number). inr (cc)) (λ (x : line_at s line ≡ Committed number). impossible (cc)) p.0,
           p.1,
         )
-    holds_committed_here line count inside e ended p = let q = p.0 in let z : ◌≡◌ {A = ℕ} 0 1 = cc in absurd (omega arith)
+    holds_committed_here line count inside e ended p = let q = p.0 in impossible (cc)
 
     holds_committed : (line count : ℕ) → line < length s.lines → line_at s line ≡ Loaded count → (j : ℕ) (h : History) → Holds relation scheme start s j h → Holds relation scheme start (committed_state line count) j h
     holds_committed line count inside e j h p =

@@ -65,11 +65,14 @@ module _ {E : Type 0} (relation : RelationMeaning E) (scheme : SchemeMeaning) wh
   coins_start line = line * coins_size
 
   -- the mask in a line's memory: permutations, R, v; apart from them the coins
-  abbrev pub mask_on : ConsoleState → ℕ → Mask
-  mask_on s line =
+  abbrev pub mask_in : (numbers coins : List ℕ) → ℕ → Mask
+  mask_in numbers coins line =
       let size = relation.layer_count * relation.layer_len in
-      mask_of (part (numbers_start line) size s.numbers) (part (numbers_start line + size) size s.numbers)
-      (part (numbers_start line + size + size) relation.free_len s.numbers) (part (coins_start line) coins_size s.coins)
+      mask_of (part (numbers_start line) size numbers) (part (numbers_start line + size) size numbers)
+      (part (numbers_start line + size + size) relation.free_len numbers) (part (coins_start line) coins_size coins)
+
+  abbrev pub mask_on : ConsoleState → ℕ → Mask
+  mask_on s line = mask_in s.numbers s.coins line
 
   -- 35: the memory does not hold four masks
   abbrev pub memory_fault : ConsoleState → Option ℕ

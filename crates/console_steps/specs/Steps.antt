@@ -6,6 +6,7 @@ use Rattle.commitment.specs.Meaning.{SchemeMeaning}
 use Rattle.masks.specs.Mask.{Mask, mask_fault}
 use Rattle.messages.specs.Checks.{or_else}
 use Rattle.console_moves.specs.Faults as moves
+use Rattle.console_steps.specs.declared.lines.Line.{Line}
 use Rattle.console_steps.specs.declared.lines.Line.TheVariants.{Free, Loaded, Committed}
 use Rattle.console_steps.specs.State.{ConsoleState, console_state, Slip, loaded, committed, slip_line, slip_state, same_line, line_at, mask_on, memory_fault, put, cleared}
 
@@ -30,11 +31,13 @@ module _ {E : Type 0} (relation : RelationMeaning E) (scheme : SchemeMeaning) wh
       (or_else (mask_fault relation scheme.width mask)
       (loads_fault s))))
 
-  -- 35, then 36: the line does not carry this slip in this state
+  -- 35, then 36: the line does not carry a slip that asks for this state
+  abbrev pub carry_fault : ConsoleState → ℕ → Line → Option ℕ
+  carry_fault s line state =
+      or_else (memory_fault relation scheme s) (cond (nat_lt 3 line || not (same_line (line_at s line) state)) (Some 36) None)
+
   abbrev pub slip_fault : ConsoleState → Slip → Option ℕ
-  slip_fault s slip =
-      or_else (memory_fault relation scheme s)
-      (cond (nat_lt 3 (slip_line slip) || not (same_line (line_at s (slip_line slip)) (slip_state slip))) (Some 36) None)
+  slip_fault s slip = carry_fault s (slip_line slip) (slip_state slip)
 
   -- `work` is the length of the work area, and `out` is the output
   abbrev pub commit_fault : ConsoleState → Slip → List E → ℕ → List ℕ → Option ℕ

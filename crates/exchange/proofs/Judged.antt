@@ -1,14 +1,18 @@
 -- The step of judge, where nothing is refused.
-use Rattle.std.proofs.Common.{◌≡◌, ℕ, ◌-◌, ◌*◌, Bool, true, false, cond, ltb, List, take, drop, Some, None, Option, sym, ap, ◌∙◌, subst, arith}
+use Rattle.std.proofs.Common.{◌≡◌, ℕ, ◌-◌, ◌*◌, Bool, true, false, cond, ltb, List, take, drop, Some, None, Ok, Option, Result, IfOk, sym, ap, ◌∙◌, subst, arith}
+use Rattle.std.specs.Result.{result_err}
 use Rattle.std.proofs.lemmas.Bool.{le-ltb, cond-false}
+use Rattle.std.proofs.lemmas.Result.{IfOk-at_ok}
+use Rattle.refusals.specs.Answers.{Answered}
 use Rattle.refusals.specs.declared.cause.Cause.{Cause}
+use Rattle.refusals.specs.declared.refusal.Refusal.{Refusal}
 use Rattle.relation.specs.Meaning.{RelationMeaning}
 use Rattle.commitment.specs.Meaning.{SchemeMeaning}
 use Rattle.messages.specs.declared.challenge.Challenge.{Challenge}
 use Rattle.moves.specs.Moves.{Triple}
 use Rattle.moves.specs.Causes.{cause}
 use Rattle.moves.specs.Sizes.{committed_size, work_size}
-use Rattle.exchange_moves.specs.Verdicts.{triple, Leaves, YesTo}
+use Rattle.exchange_moves.specs.Verdicts.{judge_fault, triple, Leaves, YesTo}
 use Rattle.exchange_steps.specs.State.{ExchangeState, line_at, row_at, commitments_in}
 use Rattle.exchange_steps.specs.Steps.{log_full, judged, judge_at, judge_step}
 use Rattle.exchange.specs.Told.{IfChallenged, Ready, RowJudged}
@@ -29,14 +33,20 @@ no_fault true n e = cc
 no_fault false n e = cc
 
 module _ {E : Type 0} (relation : RelationMeaning E) (scheme : SchemeMeaning) where
-  pub row_judged : (row : List ℕ) (parts : Triple) (challenge : Challenge) (message : List ℕ) (fresh same : Type 0) (why : Option Cause) → parts ≡ commitments_in scheme.width row
-      → why ≡ cause relation scheme parts challenge message → YesTo relation scheme parts challenge message why → Leaves why fresh same
+  -- what is judged against the parts of a row is judged against its commitments
+  pub row_judged : {T : Type 0} (row : List ℕ) (parts : Triple) (challenge : Challenge) (message : List ℕ) (work : ℕ) (fresh same : Type 0) (result : Result (Result T Cause) Refusal) (verdict : Result T Cause) (why : Option Cause)
+      → parts ≡ commitments_in scheme.width row → result ≡ Ok verdict → why ≡ result_err verdict
+      → Answered (judge_fault relation scheme work) result (λ v. (result_err v ≡ cause relation scheme parts challenge message) × Leaves (result_err v) fresh same) same
+      → IfOk result (λ v. YesTo relation scheme parts challenge message (result_err v))
       → RowJudged relation scheme row challenge message fresh same why
-  row_judged row parts challenge message fresh same why e computed decides leaves = record {
-    computed = computed ∙ ap (λ c. cause relation scheme c challenge message) e;
-    decides = subst (λ c. YesTo relation scheme c challenge message why) e decides;
-    leaves = leaves;
-  }
+  row_judged row parts challenge message work fresh same result verdict why e ok is outcome decides =
+      let told = (subst (λ r. Answered (judge_fault relation scheme work) r (λ v. (result_err v ≡ cause relation scheme parts challenge message) × Leaves (result_err v) fresh same) same) ok outcome).1 in
+      record {
+        computed = is ∙ told.0 ∙ ap (λ c. cause relation scheme c challenge message) e;
+        decides = subst (λ w. YesTo relation scheme (commitments_in scheme.width row) challenge message w) (sym is)
+            (subst (λ c. YesTo relation scheme c challenge message (result_err verdict)) e (IfOk-at_ok (λ v. YesTo relation scheme parts challenge message (result_err v)) ok decides));
+        leaves = subst (λ w. Leaves w fresh same) (sym is) told.1;
+      }
 
   -- what a verdict on a line that is ready comes to; `said` is the verdict as it is told
   pub record Outcome (s : ExchangeState) (line : ℕ) (message : List ℕ) (work : ℕ) (challenge : Challenge) (fresh same : Type 0) (said : Option Cause) : Type 0 where

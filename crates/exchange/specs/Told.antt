@@ -1,5 +1,6 @@
--- A call's result in the words of the steps.
+-- An exchange and a call's result in the words of the steps.
 use Rattle.std.specs.Prelude.{◌≡◌, ℕ, ◌≤◌, false, List, Some, None, Ok, Err, Option, Result}
+use Rattle.std.specs.Result.{result_err}
 use Rattle.refusals.specs.declared.cause.Cause.{Cause}
 use Rattle.refusals.specs.declared.refusal.Refusal.{Refusal}
 use Rattle.messages.specs.declared.challenge.Challenge.{Challenge}
@@ -8,29 +9,36 @@ use Rattle.commitment.specs.Meaning.{SchemeMeaning}
 use Rattle.moves.specs.Causes.{cause}
 use Rattle.moves.specs.Sizes.{limit_fault, work_fault}
 use Rattle.exchange_moves.specs.Verdicts.{Leaves, YesTo}
-use Rattle.exchange_steps.specs.State.{ExchangeState, line_at, commitments_in}
+use Rattle.exchange_steps.specs.declared.log.Record.{Record}
+use Rattle.exchange_steps.specs.State.{ExchangeState, exchange_state, new_exchange, line_at, commitments_in}
 use Rattle.exchange_steps.specs.Steps.{log_full}
 use Rattle.exchange_steps.specs.declared.lines.LineState.{LineState}
 use Rattle.exchange_steps.specs.declared.lines.LineState.TheVariants.{Free, Opened, Challenged}
-use Rattle.exchange.specs.declared.exchange.Verdict.{Verdict}
-use Rattle.exchange.specs.declared.exchange.Verdict.TheVariants.{Yes, No}
+use Rattle.exchange.specs.declared.exchange.Exchange.{Exchange}
 
--- a yes has no cause
-abbrev pub cause_of : Verdict → Option Cause
-cause_of Yes = None
-cause_of (No why) = Some why
+-- an exchange with the log's memory
+abbrev pub state_of : {R S : Type 0} → Exchange R S → (records : List Record) (bytes : List ℕ) → ExchangeState
+state_of exchange records bytes = exchange_state exchange.lines exchange.table exchange.entries exchange.used records bytes
 
-abbrev pub told_judge : Result Verdict Refusal → Result (Option Cause) Refusal
-told_judge (Ok verdict) = Ok (cause_of verdict)
+-- an exchange just made has this relation and this scheme, whatever the log's memory holds
+pub record IsNew {R S : Type 0} (exchange : Exchange R S) (its_relation : R) (its_scheme : S) : Type 0 where
+  pub relation : exchange.relation ≡ its_relation
+  pub scheme : exchange.scheme ≡ its_scheme
+  pub state : (records : List Record) (bytes : List ℕ) → state_of exchange records bytes ≡ new_exchange records bytes
+
+-- a call leaves the relation and the scheme as they were
+pub record Keeps {R S : Type 0} (old new : Exchange R S) : Type 0 where
+  pub relation : new.relation ≡ old.relation
+  pub scheme : new.scheme ≡ old.scheme
+
+-- a verdict in the steps' words: the cause of a no, none for a yes
+abbrev pub told_judge : Result (Result (Unit {0}) Cause) Refusal → Result (Option Cause) Refusal
+told_judge (Ok verdict) = Ok (result_err verdict)
 told_judge (Err refusal) = Err refusal
 
--- a call ended with this result and this state, as the step says
-abbrev pub Ends : {T S : Type 0} → T → S → T × S → Type 0
-Ends result state step = (result ≡ step.0) × (state ≡ step.1)
-
 -- of a call that was not refused
-abbrev pub IfJudged : Result Verdict Refusal → (Option Cause → Type 0) → Type 0 → Type 0
-IfJudged (Ok verdict) P Q = P (cause_of verdict)
+abbrev pub IfJudged : Result (Result (Unit {0}) Cause) Refusal → (Option Cause → Type 0) → Type 0 → Type 0
+IfJudged (Ok verdict) P Q = P (result_err verdict)
 IfJudged (Err refusal) P Q = Q
 
 -- of the challenge of a challenged line

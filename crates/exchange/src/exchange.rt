@@ -1,36 +1,34 @@
-// An exchange and its calls. The log's memory is lent to judge: records, and beside them the bytes of the answers.
-ghost use Rattle.std.specs.Prelude.{◌≡◌, ℕ, ◌+◌, ◌<◌, ◌≤◌, List, [], ◌++◌, length, replicate, None, Err, MatchResult, slice_index_or};
-ghost use Rattle.refusals.specs.Answers.{Answered};
-ghost use Rattle.vectors.specs.Over.{over, zeros};
+// An exchange and its calls. The log's memory is lent to judge: plain records, and beside them the bytes of the answers, as two slices
+// that the log's reader is lent too.
+ghost use Rattle.std.specs.Prelude.{◌≡◌, ℕ, ◌+◌, ◌<◌, ◌≤◌, List, length, None, Err, MatchResult, slice_index_or};
+ghost use Rattle.refusals.specs.Answers.{Answered, Ends};
+ghost use Rattle.vectors.specs.Over.{zeros};
 ghost use Rattle.commitment.specs.Meaning.{Fresh};
 ghost use Rattle.moves.specs.Sizes.{limit_fault, work_fault};
 ghost use Rattle.exchange_moves.specs.Verdicts.{Leaves, YesTo};
+ghost use Rattle.refusals.specs.declared.refusal.Refusal.TheVariants.{NoSuchExchangeLine};
 ghost use Rattle.exchange_steps.specs.declared.lines.LineState.TheVariants.{Free};
-ghost use Rattle.exchange_steps.specs.State.{exchange_state, commitments_in, with_entry};
+ghost use Rattle.exchange_steps.specs.State.{line_at, row_at, commitments_in, with_entry};
 ghost use Rattle.exchange_steps.specs.Steps.{thrown as thrown_by, log_full, open_step, dice_step, judge_step, clear_step};
-ghost use Rattle.exchange.specs.Told.{told_judge, Ends, IfJudged, IfChallenged, Ready, RowJudged};
+ghost use Rattle.exchange.specs.Told.{state_of, IsNew, Keeps, told_judge, IfJudged, IfChallenged, Ready, RowJudged};
 
 use commitment::scheme::Scheme;
+pub use exchange_moves::judging::Verdict;
 use exchange_moves::judging::judge;
 use exchange_steps::lines::LineState;
 use exchange_steps::log::Record;
 use messages::challenge::Challenge;
+use messages::fields::Triple;
 use messages::reader::read_commitments;
-use openings::limits::{limit_suffices, work_size};
+use openings::limits::{check_limit, work_size};
 use refusals::cause::Cause;
 use refusals::refusal::Refusal;
 use relation::Relation;
-use vectors::parts::copy_part;
+use vectors::parts::{copy_part, copy_three};
 use vectors::zeroing::ZeroOnDrop;
 
-// What judge says of an answer; a no carries its cause.
-#[derive(Clone, Copy, PartialEq, Eq, Debug)]
-pub enum Verdict {
-    Yes,
-    No(Cause),
-}
-
-// A relation, a scheme, the states of lines 0 to 3, the commitments of the lines, and the counts of log entries and answer bytes.
+// A relation, a scheme, the states of lines 0 to 3, for each line a row of commitments as the log keeps them (beside the states, which
+// hold no arrays), and how many entries and answer bytes of the lent log are used.
 #[derive(Drop)]
 pub struct Exchange<R, S> {
     relation: R,
@@ -39,16 +37,6 @@ pub struct Exchange<R, S> {
     table: [[u8; 384]; 4],
     entries: usize,
     used: usize,
-}
-
-// Writes three commitments at the start of a row, one behind another.
-fn write_row(row: &mut [u8], first: &[u8], second: &[u8], third: &[u8])
-    requires { length first.now + length second.now + length third.now ≤ length row.old }
-    ensures { row.new ≡ over row.old 0 (first.now ++ (second.now ++ third.now)) }
-{
-    copy_part(row, 0, first);
-    copy_part(row, first.len(), second);
-    copy_part(row, first.len() + second.len(), third);
 }
 
 fn thrown(byte: u8) -> Challenge
@@ -61,7 +49,7 @@ fn thrown(byte: u8) -> Challenge
     }
 }
 
-// Judges an answer against the commitments at the start of a row. Nothing is refused: the scheme and the work area suffice.
+// Why an answer is turned down, judged against the commitments at the start of a row. The scheme and the work area suffice.
 fn judge_row<R: Relation, S: Scheme>(
     relation: &R,
     scheme: &mut S,
@@ -69,27 +57,28 @@ fn judge_row<R: Relation, S: Scheme>(
     challenge: Challenge,
     message: &[u8],
     work: &mut [u16],
-) -> Result<Option<Cause>, Refusal>
-    requires { (limit_fault (R.Relation.meaning relation.now) (S.Scheme.meaning scheme.old) ≡ None) × (work_fault (R.Relation.meaning relation.now) (length work.old) ≡ None) }
-    ensures outcome { MatchResult result (λ why. RowJudged (R.Relation.meaning relation.now) (S.Scheme.meaning scheme.old) row.now challenge message.now (Fresh (S.Scheme.meaning scheme.old) (S.Scheme.state scheme.new)) (scheme.new ≡ scheme.old) why) (λ _. ⊥) }
+) -> Option<Cause>
+    requires limit { limit_fault (R.Relation.meaning relation.now) (S.Scheme.meaning scheme.old) ≡ None }
+    requires room { work_fault (R.Relation.meaning relation.now) (length work.old) ≡ None }
+    ensures outcome { RowJudged (R.Relation.meaning relation.now) (S.Scheme.meaning scheme.old) row.now challenge message.now (Fresh (S.Scheme.meaning scheme.old) (S.Scheme.state scheme.new)) (scheme.new ≡ scheme.old) result }
     ensures kept { S.Scheme.meaning scheme.new ≡ S.Scheme.meaning scheme.old }
 {
     let width = scheme.width();
-    let one = &row[0..width];
-    let two = &row[width..2 * width];
-    let three = &row[2 * width..3 * width];
-    let verdict = judge(relation, scheme, one, two, three, challenge, message, work)?;
-    Ok(verdict)
+    let commitments = Triple {
+        one: &row[0..width],
+        two: &row[width..2 * width],
+        three: &row[2 * width..3 * width],
+    };
+    let judged = judge(relation, scheme, commitments, challenge, message, work);
+    judged.unwrap().err()
 }
 
 impl<R: Relation + Drop, S: Scheme + Drop> Exchange<R, S> {
     // An exchange with free lines and an empty log. Refuses a scheme whose limit is too small for the relation's messages.
     pub fn new(relation: R, scheme: S) -> Result<Exchange<R, S>, Refusal>
-        ensures { Answered (limit_fault (R.Relation.meaning relation) (S.Scheme.meaning scheme)) result (λ exchange. (exchange.relation ≡ relation) × (exchange.scheme ≡ scheme) × (exchange.lines ≡ replicate 4 Free) × (exchange.table ≡ replicate 4 (zeros 384)) × (exchange.entries ≡ 0) × (exchange.used ≡ 0)) (Unit {0}) }
+        ensures { Answered (limit_fault (R.Relation.meaning relation) (S.Scheme.meaning scheme)) result (λ exchange. IsNew exchange relation scheme) (Unit {0}) }
     {
-        if !limit_suffices(&relation, &scheme) {
-            return Err(Refusal::SchemeLimit);
-        }
+        check_limit(&relation, &scheme)?;
         Ok(Exchange {
             relation,
             scheme,
@@ -104,20 +93,17 @@ impl<R: Relation + Drop, S: Scheme + Drop> Exchange<R, S> {
 impl<R: Relation, S: Scheme> Exchange<R, S> {
     // Reads a commitments message onto a free line. The log plays no part: the promise holds for any log.
     pub fn open(&mut self, line: usize, message: &[u8]) -> Result<(), Refusal>
-        ensures ends { (records : List Record) (bytes : List ℕ) → Ends result (exchange_state self.new.lines self.new.table self.new.entries self.new.used records bytes)
-            (open_step (S.Scheme.meaning self.old.scheme).width (exchange_state self.old.lines self.old.table self.old.entries self.old.used records bytes) line message.now) }
-        ensures kept { (self.new.relation ≡ self.old.relation) × (self.new.scheme ≡ self.old.scheme) }
+        ensures ends { (records : List Record) (bytes : List ℕ) → Ends result (state_of self.new records bytes)
+            (open_step (S.Scheme.meaning self.old.scheme).width (state_of self.old records bytes) line message.now) }
+        ensures kept { Keeps self.old self.new }
     {
-        if line > 3 {
-            return Err(Refusal::NoSuchExchangeLine);
-        }
-        match self.lines[line] {
-            LineState::Free => {}
-            LineState::Opened | LineState::Challenged(_) => return Err(Refusal::ExchangeLineInUse),
-        }
+        let LineState::Free = self.line_state(line)? else {
+            return Err(Refusal::ExchangeLineInUse);
+        };
         let commitments = read_commitments(message, self.scheme.width())?;
-        write_row(
+        copy_three(
             &mut self.table[line],
+            0,
             commitments.first.content,
             commitments.second.content,
             commitments.third.content,
@@ -128,17 +114,13 @@ impl<R: Relation, S: Scheme> Exchange<R, S> {
 
     // Throws the challenge of an opened line: the byte modulo 3, plus 1.
     pub fn dice(&mut self, line: usize, byte: u8) -> Result<Challenge, Refusal>
-        ensures ends { (records : List Record) (bytes : List ℕ) → Ends result (exchange_state self.new.lines self.new.table self.new.entries self.new.used records bytes)
-            (dice_step (exchange_state self.old.lines self.old.table self.old.entries self.old.used records bytes) line byte) }
-        ensures kept { (self.new.relation ≡ self.old.relation) × (self.new.scheme ≡ self.old.scheme) }
+        ensures ends { (records : List Record) (bytes : List ℕ) → Ends result (state_of self.new records bytes)
+            (dice_step (state_of self.old records bytes) line byte) }
+        ensures kept { Keeps self.old self.new }
     {
-        if line > 3 {
-            return Err(Refusal::NoSuchExchangeLine);
-        }
-        match self.lines[line] {
-            LineState::Opened => {}
-            LineState::Free | LineState::Challenged(_) => return Err(Refusal::LineNotOpened),
-        }
+        let LineState::Opened = self.line_state(line)? else {
+            return Err(Refusal::LineNotOpened);
+        };
         if byte == 255 {
             return Err(Refusal::DiceByte);
         }
@@ -156,14 +138,18 @@ impl<R: Relation, S: Scheme> Exchange<R, S> {
         message: &[u8],
         work: &mut [u16],
     ) -> Result<Verdict, Refusal>
-        ensures ends { Ends (told_judge result) (exchange_state self.new.lines self.new.table self.new.entries self.new.used records.new bytes.new)
-            (judge_step (R.Relation.meaning self.old.relation) (S.Scheme.meaning self.old.scheme) (exchange_state self.old.lines self.old.table self.old.entries self.old.used records.old bytes.old) line message.now (length work.old)) }
-        ensures decides { IfJudged result (λ why. IfChallenged (slice_index_or self.old.lines line Free) (λ challenge. YesTo (R.Relation.meaning self.old.relation) (S.Scheme.meaning self.old.scheme) (commitments_in (S.Scheme.meaning self.old.scheme).width (slice_index_or self.old.table line [])) challenge message.now why)) (Unit {0}) }
-        ensures kept { (self.new.relation ≡ self.old.relation) × ((S.Scheme.meaning self.new.scheme ≡ S.Scheme.meaning self.old.scheme) × (IfJudged result (λ why. Leaves why (Fresh (S.Scheme.meaning self.old.scheme) (S.Scheme.state self.new.scheme)) (self.new.scheme ≡ self.old.scheme)) (self.new.scheme ≡ self.old.scheme))) }
+        ensures ends { Ends (told_judge result) (state_of self.new records.new bytes.new)
+            (judge_step (R.Relation.meaning self.old.relation) (S.Scheme.meaning self.old.scheme) (state_of self.old records.old bytes.old) line message.now (length work.old)) }
+        ensures decides { let s = state_of self.old records.old bytes.old in
+            IfJudged result (λ why. IfChallenged (line_at s line) (λ challenge. YesTo (R.Relation.meaning self.old.relation) (S.Scheme.meaning self.old.scheme) (commitments_in (S.Scheme.meaning self.old.scheme).width (row_at s line)) challenge message.now why)) (Unit {0}) }
+        ensures kept { self.new.relation ≡ self.old.relation }
+        ensures meaning { S.Scheme.meaning self.new.scheme ≡ S.Scheme.meaning self.old.scheme }
+        ensures scheme { IfJudged result (λ why. Leaves why (Fresh (S.Scheme.meaning self.old.scheme) (S.Scheme.state self.new.scheme)) (self.new.scheme ≡ self.old.scheme)) (self.new.scheme ≡ self.old.scheme) }
         ensures zeroed { work.new ≡ zeros (length work.old) }
     {
         let guard = ZeroOnDrop { area: work };
         let challenge = self.challenge_to_judge(records, bytes, line, message, guard.area.len())?;
+        // a copy: of a borrowed row a proof only sees what the table holds later
         let row = self.table[line];
         let verdict = judge_row(
             &self.relation,
@@ -172,13 +158,13 @@ impl<R: Relation, S: Scheme> Exchange<R, S> {
             challenge,
             message,
             guard.area,
-        )?;
+        );
         self.lines[line] = LineState::Free;
         if let Some(cause) = verdict {
-            return Ok(Verdict::No(cause));
+            return Ok(Err(cause));
         }
         self.append(records, bytes, line, challenge, message);
-        Ok(Verdict::Yes)
+        Ok(Ok(()))
     }
 
     // The challenge of the line, or why nothing is judged there. `room` is the length of the work area.
@@ -190,22 +176,17 @@ impl<R: Relation, S: Scheme> Exchange<R, S> {
         message: &[u8],
         room: usize,
     ) -> Result<Challenge, Refusal>
-        ensures { MatchResult result
-            (λ challenge. Ready (R.Relation.meaning self.now.relation) (S.Scheme.meaning self.now.scheme) (exchange_state self.now.lines self.now.table self.now.entries self.now.used records.now bytes.now) line message.now room challenge)
-            (λ refusal. judge_step (R.Relation.meaning self.now.relation) (S.Scheme.meaning self.now.scheme) (exchange_state self.now.lines self.now.table self.now.entries self.now.used records.now bytes.now) line message.now room ≡ (Err refusal, exchange_state self.now.lines self.now.table self.now.entries self.now.used records.now bytes.now)) }
+        ensures { let s = state_of self.now records.now bytes.now in MatchResult result
+            (λ challenge. Ready (R.Relation.meaning self.now.relation) (S.Scheme.meaning self.now.scheme) s line message.now room challenge)
+            (λ refusal. judge_step (R.Relation.meaning self.now.relation) (S.Scheme.meaning self.now.scheme) s line message.now room ≡ (Err refusal, s)) }
     {
-        if line > 3 {
-            return Err(Refusal::NoSuchExchangeLine);
-        }
-        let LineState::Challenged(challenge) = self.lines[line] else {
+        let LineState::Challenged(challenge) = self.line_state(line)? else {
             return Err(Refusal::LineNotChallenged);
         };
         if self.log_is_full(records, bytes, message) {
             return Err(Refusal::LogFull);
         }
-        if !limit_suffices(&self.relation, &self.scheme) {
-            return Err(Refusal::SchemeLimit);
-        }
+        check_limit(&self.relation, &self.scheme)?;
         if room < work_size(&self.relation) {
             return Err(Refusal::RoomShort);
         }
@@ -214,12 +195,11 @@ impl<R: Relation, S: Scheme> Exchange<R, S> {
 
     // Says whether the log cannot take a record or the message's bytes.
     fn log_is_full(&self, records: &[Record], bytes: &[u8], message: &[u8]) -> bool
-        ensures { result ≡ log_full (exchange_state self.now.lines self.now.table self.now.entries self.now.used records.now bytes.now) message.now }
+        ensures { result ≡ log_full (state_of self.now records.now bytes.now) message.now }
     {
-        if self.entries >= records.len() || self.used > bytes.len() {
-            return true;
-        }
-        bytes.len() - self.used < message.len()
+        self.entries >= records.len()
+            || self.used > bytes.len()
+            || bytes.len() - self.used < message.len()
     }
 
     // Adds the answer on a line to the log.
@@ -231,10 +211,11 @@ impl<R: Relation, S: Scheme> Exchange<R, S> {
         challenge: Challenge,
         message: &[u8],
     )
-        requires { (line < 4) × ((self.old.entries < length records.old) × (self.old.used + length message.now ≤ length bytes.old)) }
-        ensures grown { exchange_state self.new.lines self.new.table self.new.entries self.new.used records.new bytes.new
-            ≡ with_entry (exchange_state self.old.lines self.old.table self.old.entries self.old.used records.old bytes.old) (slice_index_or self.old.table line []) challenge message.now }
-        ensures kept { (self.new.relation ≡ self.old.relation) × (self.new.scheme ≡ self.old.scheme) }
+        requires line_in_range { line < 4 }
+        requires record_left { self.old.entries < length records.old }
+        requires bytes_left { self.old.used + length message.now ≤ length bytes.old }
+        ensures grown { let s = state_of self.old records.old bytes.old in state_of self.new records.new bytes.new ≡ with_entry s (row_at s line) challenge message.now }
+        ensures kept { Keeps self.old self.new }
     {
         let start = self.used;
         let len = message.len();
@@ -251,18 +232,24 @@ impl<R: Relation, S: Scheme> Exchange<R, S> {
 
     // Frees a line.
     pub fn clear(&mut self, line: usize) -> Result<(), Refusal>
-        ensures ends { (records : List Record) (bytes : List ℕ) → Ends result (exchange_state self.new.lines self.new.table self.new.entries self.new.used records bytes)
-            (clear_step (exchange_state self.old.lines self.old.table self.old.entries self.old.used records bytes) line) }
-        ensures kept { (self.new.relation ≡ self.old.relation) × (self.new.scheme ≡ self.old.scheme) }
+        ensures ends { (records : List Record) (bytes : List ℕ) → Ends result (state_of self.new records bytes)
+            (clear_step (state_of self.old records bytes) line) }
+        ensures kept { Keeps self.old self.new }
     {
-        if line > 3 {
-            return Err(Refusal::NoSuchExchangeLine);
-        }
-        match self.lines[line] {
-            LineState::Free => return Err(Refusal::LineAlreadyFree),
-            LineState::Opened | LineState::Challenged(_) => {}
+        if let LineState::Free = self.line_state(line)? {
+            return Err(Refusal::LineAlreadyFree);
         }
         self.lines[line] = LineState::Free;
         Ok(())
+    }
+
+    // The state of a line, if there is such a line.
+    fn line_state(&self, line: usize) -> Result<LineState, Refusal>
+        ensures { MatchResult result (λ state. (line < 4) × (state ≡ slice_index_or self.now.lines line Free)) (λ refusal. (3 < line) × (refusal ≡ NoSuchExchangeLine)) }
+    {
+        self.lines
+            .get(line)
+            .copied()
+            .ok_or(Refusal::NoSuchExchangeLine)
     }
 }

@@ -1,6 +1,8 @@
 // Answers with one byte changed: none gets a yes.
 use crate::desk::{Call, Change, Desk};
-use crate::honest::{Mask, NOISE_KEY, SHORT_KEY, next_state, noise, noise_mask, short, short_mask};
+use crate::honest::{
+    Mask, NOISE_KEY, SHORT_KEY, noise, noise_mask, random_bytes, short, short_mask,
+};
 use relation::Relation;
 use std::process::Abort;
 use std::test::*;
@@ -13,19 +15,23 @@ fn verdict<R: Relation + Drop>(desk: &mut Desk<R>, byte: u8, change: Change) -> 
     if opened == 0 { verdict } else { opened }
 }
 
+// Whether this is the number of a cause of a no.
+fn is_no(number: u8) -> bool {
+    81 <= number && number <= 88
+}
+
 // Says whether the answer gets a no with another byte in each place in turn: once with the lowest bit turned, once with bits that
 // look random.
 fn changes_get_a_no<R: Relation + Drop>(desk: &mut Desk<R>, byte: u8, len: usize) -> bool {
-    let mut all = true;
-    let mut state = 1;
-    for place in 0..len {
-        state = next_state(state);
-        let bits = (state >> 24) as u8 | 2;
+    let random: [u8; 152] = random_bytes(1);
+    for (place, bits) in random.iter().take(len).enumerate() {
         let lowest = verdict(desk, byte, Change::Turned(place, 1));
-        let random = verdict(desk, byte, Change::Turned(place, bits));
-        all = all && 81 <= lowest && lowest <= 88 && 81 <= random && random <= 88;
+        let other = verdict(desk, byte, Change::Turned(place, *bits | 2));
+        if !is_no(lowest) || !is_no(other) {
+            return false;
+        }
     }
-    all
+    true
 }
 
 // The answer to a challenge, changed, and then as it is.
@@ -46,14 +52,14 @@ fn check_changes<R: Relation + Drop>(
 
 #[test]
 fn changed_short_answers_get_a_no(rt: HostRuntime) -> Result<(), Fail> {
-    check_changes(&rt, short(), &SHORT_KEY, &short_mask(), 0, 148)?;
-    check_changes(&rt, short(), &SHORT_KEY, &short_mask(), 1, 151)?;
-    check_changes(&rt, short(), &SHORT_KEY, &short_mask(), 2, 151)
+    check_changes(&rt, short()?, &SHORT_KEY, &short_mask(), 0, 148)?;
+    check_changes(&rt, short()?, &SHORT_KEY, &short_mask(), 1, 151)?;
+    check_changes(&rt, short()?, &SHORT_KEY, &short_mask(), 2, 151)
 }
 
 #[test]
 fn changed_noise_answers_get_a_no(rt: HostRuntime) -> Result<(), Fail> {
-    check_changes(&rt, noise(), &NOISE_KEY, &noise_mask(), 0, 92)?;
-    check_changes(&rt, noise(), &NOISE_KEY, &noise_mask(), 1, 99)?;
-    check_changes(&rt, noise(), &NOISE_KEY, &noise_mask(), 2, 99)
+    check_changes(&rt, noise()?, &NOISE_KEY, &noise_mask(), 0, 92)?;
+    check_changes(&rt, noise()?, &NOISE_KEY, &noise_mask(), 1, 99)?;
+    check_changes(&rt, noise()?, &NOISE_KEY, &noise_mask(), 2, 99)
 }

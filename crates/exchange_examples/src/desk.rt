@@ -58,19 +58,12 @@ const ALL: Lent = Lent {
 };
 
 // Log memory that nothing was written to.
-const UNUSED: Record = Record {
+pub const UNUSED: Record = Record {
     commitments: [9; 384],
     challenge: Challenge::Three,
     start: 9,
     len: 9,
 };
-
-pub fn is_unused(record: &Record) -> bool {
-    record.commitments == [9; 384]
-        && record.challenge.number() == 3
-        && record.start == 9
-        && record.len == 9
-}
 
 fn changed(message: Message, change: Change) -> Message {
     let Message { mut bytes, mut len } = message;
@@ -79,8 +72,8 @@ fn changed(message: Message, change: Change) -> Message {
         Change::Cut => len = len.saturating_sub(1),
         Change::Extended => len = len.saturating_add(1),
         Change::Turned(place, bits) => {
-            if place < 152 {
-                bytes[place] ^= bits;
+            if let Some(byte) = bytes.get_mut(place) {
+                *byte ^= bits;
             }
         }
     }
@@ -96,24 +89,18 @@ fn refused(refusal: Refusal) -> (u8, usize) {
 }
 
 fn done(answer: Result<(), Refusal>) -> (u8, usize) {
-    match answer {
-        Ok(()) => (0, 0),
-        Err(refusal) => refused(refusal),
-    }
+    answer.map_or_else(refused, |()| (0, 0))
 }
 
 // The challenge's number, if one is thrown.
 fn thrown(answer: Result<Challenge, Refusal>) -> (u8, usize) {
-    match answer {
-        Ok(challenge) => (challenge.number(), 0),
-        Err(refusal) => refused(refusal),
-    }
+    answer.map_or_else(refused, |challenge| (challenge.number(), 0))
 }
 
 fn judged(answer: Result<Verdict, Refusal>) -> (u8, usize) {
     match answer {
-        Ok(Verdict::Yes) => (0, 0),
-        Ok(Verdict::No(cause)) => (cause.number(), cause.place()),
+        Ok(Ok(())) => (0, 0),
+        Ok(Err(cause)) => (cause.number(), cause.place()),
         Err(refusal) => refused(refusal),
     }
 }
@@ -145,41 +132,37 @@ impl<R: Relation + Drop> Desk<R> {
     }
 
     fn open(&mut self, line: usize, change: Change) -> (u8, usize) {
-        let Message { bytes, len } = changed(self.honest[0], change);
-        done(self.exchange.open(line, &bytes[0..len.min(152)]))
+        let message = changed(self.honest[0], change);
+        done(self.exchange.open(line, message.content()))
     }
 
     // A work area of which not exactly the part that was lent is zeros afterwards is answered by (255, 0).
     fn judge(&mut self, line: usize, number: usize, change: Change) -> (u8, usize) {
-        let Message { bytes, len } = changed(self.honest[number.min(3)], change);
+        let message = changed(self.honest[number.min(3)], change);
         let work_len = self.lent.work.min(18);
         let mut work = [9; 18];
         let verdict = self.exchange.judge(
             &mut self.records[0..self.lent.records.min(3)],
             &mut self.bytes[0..self.lent.bytes.min(460)],
             line,
-            &bytes[0..len.min(152)],
+            message.content(),
             &mut work[0..work_len],
         );
-        for (i, entry) in work.iter().enumerate() {
-            if (*entry == 0) != (i < work_len) {
-                return (255, 0);
-            }
+        let lent_zeroed = work[0..work_len].iter().all(|entry| *entry == 0);
+        let rest_zeroed = work[work_len..18].iter().any(|entry| *entry == 0);
+        if !lent_zeroed || rest_zeroed {
+            return (255, 0);
         }
         judged(verdict)
     }
 
     pub fn nothing_logged(&self) -> bool {
-        self.bytes == [9; 460]
-            && is_unused(&self.records[0])
-            && is_unused(&self.records[1])
-            && is_unused(&self.records[2])
+        self.bytes == [9; 460] && self.records == [UNUSED; 3]
     }
 
     // Makes the calls, and holds the answers to those given.
     pub fn check_calls(&mut self, rt: &impl Abort, calls: &[(Call, (u8, usize))]) {
-        for step in calls {
-            let (call, answer) = *step;
+        for &(call, answer) in calls {
             assert_eq!(rt; self.answer(call), answer);
         }
     }

@@ -16,18 +16,27 @@ pub struct Mask {
     coins: [u8; 96],
 }
 
+impl Mask {
+    fn parts(&self) -> masks::mask::Mask<'_> {
+        masks::mask::Mask {
+            permutations: self.permutations,
+            layers: self.layers,
+            free: self.free,
+            coins: &self.coins,
+        }
+    }
+}
+
 // Three layers of six entries, and no free part. The answers take 148, 151 and 151 bytes.
-pub fn short() -> Short<'static> {
-    let mut short = Short::smallest();
-    let _ = short.set(Given {
+pub fn short() -> Result<Short<'static>, Refusal> {
+    Short::new(Given {
         modulus: 11,
         rows: 1,
         columns: 2,
         bound: 5,
         matrix: &[1, 2],
         target: &[10],
-    });
-    short
+    })
 }
 
 pub const SHORT_KEY: [i32; 2] = [5, -3];
@@ -37,22 +46,20 @@ pub fn short_mask() -> Mask {
         permutations: &[1, 2, 3, 4, 5, 0, 5, 4, 3, 2, 1, 0, 0, 2, 4, 1, 3, 5],
         layers: &[1, 2, 3, 4, 5, 6, 7, 8, 9, 10, 0, 1, 2, 3, 4, 5, 6, 7],
         free: &[],
-        coins: coins(1),
+        coins: random_bytes(1),
     }
 }
 
 // One layer of four entries, and a free part of two. The answers take 92, 99 and 99 bytes.
-pub fn noise() -> Noise<'static> {
-    let mut noise = Noise::smallest();
-    let _ = noise.set(Given {
+pub fn noise() -> Result<Noise<'static>, Refusal> {
+    Noise::new(Given {
         modulus: 2,
         rows: 4,
         columns: 2,
         bound: 1,
         matrix: &[1, 0, 0, 1, 1, 1, 1, 0],
         target: &[1, 1, 1, 1],
-    });
-    noise
+    })
 }
 
 pub const NOISE_KEY: [u8; 2] = [1, 1];
@@ -62,23 +69,19 @@ pub fn noise_mask() -> Mask {
         permutations: &[1, 2, 3, 0],
         layers: &[1, 0, 1, 1],
         free: &[0, 1],
-        coins: coins(2),
+        coins: random_bytes(2),
     }
 }
 
 // Bytes that look random, from a seed.
-fn coins(seed: u32) -> [u8; 96] {
-    let mut bytes = [0; 96];
+pub fn random_bytes<const N: usize>(seed: u32) -> [u8; N] {
+    let mut bytes = [0; N];
     let mut state = seed;
     for byte in bytes.iter_mut() {
-        state = next_state(state);
+        state = state.wrapping_mul(1664525).wrapping_add(1013904223);
         *byte = (state >> 24) as u8;
     }
     bytes
-}
-
-pub fn next_state(state: u32) -> u32 {
-    state.wrapping_mul(1664525).wrapping_add(1013904223)
 }
 
 // A message at the start of a buffer.
@@ -86,6 +89,12 @@ pub fn next_state(state: u32) -> u32 {
 pub struct Message {
     pub bytes: [u8; 152],
     pub len: usize,
+}
+
+impl Message {
+    pub fn content(&self) -> &[u8] {
+        &self.bytes[0..self.len.min(152)]
+    }
 }
 
 // The commitments message, and the answers to challenges 1 to 3.
@@ -114,10 +123,7 @@ fn commitments<R: Relation>(
         relation,
         &mut scheme,
         key,
-        mask.permutations,
-        mask.layers,
-        mask.free,
-        &mask.coins,
+        mask.parts(),
         &mut work,
         &mut bytes,
     )?;
@@ -137,10 +143,7 @@ fn answer_to<R: Relation>(
         relation,
         &scheme,
         key,
-        mask.permutations,
-        mask.layers,
-        mask.free,
-        &mask.coins,
+        mask.parts(),
         challenge,
         &mut work,
         &mut bytes,

@@ -1,23 +1,22 @@
 // Verdicts: each cause of a no, with its place, and the log of the yeses.
-use crate::desk::{Call, Change, Desk, is_unused};
+use crate::desk::{Call, Change, Desk, UNUSED};
 use crate::honest::{Message, SHORT_KEY, short, short_mask};
+use exchange_steps::log::Record;
+use messages::challenge::Challenge;
 use relation::Relation;
 use std::process::Abort;
 use std::test::*;
 
 // The answer to the challenge with this number, changed in each of these ways, gets a no with this cause on a line that is opened and
 // challenged anew by this byte. Nothing is logged.
-fn check_causes<R: Relation + Drop>(
+fn check_causes(
     rt: &impl Abort,
-    relation: R,
-    key: &[R::Entry],
     byte: u8,
     number: usize,
     causes: &[(Change, (u8, usize))],
 ) -> Result<(), Fail> {
-    let mut desk = Desk::new(relation, key, &short_mask())?;
-    for step in causes {
-        let (change, cause) = *step;
+    let mut desk = Desk::new(short()?, &SHORT_KEY, &short_mask())?;
+    for &(change, cause) in causes {
         desk.check_calls(
             rt,
             &[
@@ -36,8 +35,6 @@ fn check_causes<R: Relation + Drop>(
 fn unreadable_answers_get_a_no(rt: HostRuntime) -> Result<(), Fail> {
     check_causes(
         &rt,
-        short(),
-        &SHORT_KEY,
         0,
         1,
         &[
@@ -51,14 +48,7 @@ fn unreadable_answers_get_a_no(rt: HostRuntime) -> Result<(), Fail> {
 
 #[test]
 fn answer_to_another_challenge_gets_a_no(rt: HostRuntime) -> Result<(), Fail> {
-    check_causes(
-        &rt,
-        short(),
-        &SHORT_KEY,
-        1,
-        1,
-        &[(Change::Nothing, (82, 0))],
-    )
+    check_causes(&rt, 1, 1, &[(Change::Nothing, (82, 0))])
 }
 
 // The second residue is 11 for 10; layer 1 has a zero for a one; other coins for commitment 2, and for 3.
@@ -66,8 +56,6 @@ fn answer_to_another_challenge_gets_a_no(rt: HostRuntime) -> Result<(), Fail> {
 fn wrong_answers_to_challenge_1_get_a_no(rt: HostRuntime) -> Result<(), Fail> {
     check_causes(
         &rt,
-        short(),
-        &SHORT_KEY,
         0,
         1,
         &[
@@ -85,8 +73,6 @@ fn wrong_answers_to_challenge_1_get_a_no(rt: HostRuntime) -> Result<(), Fail> {
 fn wrong_answers_to_challenge_2_get_a_no(rt: HostRuntime) -> Result<(), Fail> {
     check_causes(
         &rt,
-        short(),
-        &SHORT_KEY,
         1,
         2,
         &[
@@ -103,8 +89,6 @@ fn wrong_answers_to_challenge_2_get_a_no(rt: HostRuntime) -> Result<(), Fail> {
 fn wrong_answers_to_challenge_3_get_a_no(rt: HostRuntime) -> Result<(), Fail> {
     check_causes(
         &rt,
-        short(),
-        &SHORT_KEY,
         2,
         3,
         &[
@@ -117,14 +101,11 @@ fn wrong_answers_to_challenge_3_get_a_no(rt: HostRuntime) -> Result<(), Fail> {
 }
 
 // A yes on each of two lines that are challenged at the same time, and a no between them.
-fn two_yeses<R: Relation + Drop>(
-    rt: &impl Abort,
-    relation: R,
-    key: &[R::Entry],
-) -> Result<(), Fail> {
-    let mut desk = Desk::new(relation, key, &short_mask())?;
+#[test]
+fn yeses_are_logged_one_behind_another(rt: HostRuntime) -> Result<(), Fail> {
+    let mut desk = Desk::new(short()?, &SHORT_KEY, &short_mask())?;
     desk.check_calls(
-        rt,
+        &rt,
         &[
             (Call::Open(1, Change::Nothing), (0, 0)),
             (Call::Dice(1, 3), (1, 0)),
@@ -137,48 +118,45 @@ fn two_yeses<R: Relation + Drop>(
             (Call::Judge(3, 2, Change::Nothing), (0, 0)),
         ],
     );
-    check_log(rt, &desk)
+    check_log(&rt, &desk);
+    Ok(())
 }
 
 // The second entry's bytes stand behind those of the first. The third record and the bytes behind stay as they were.
-fn check_log<R: Relation + Drop>(rt: &impl Abort, desk: &Desk<R>) -> Result<(), Fail> {
+fn check_log<R: Relation + Drop>(rt: &impl Abort, desk: &Desk<R>) {
     let [open, one, two, _] = desk.honest;
+    let commitments = row(&open);
+    let logged = [
+        Record {
+            commitments,
+            challenge: Challenge::One,
+            start: 0,
+            len: 148,
+        },
+        Record {
+            commitments,
+            challenge: Challenge::Two,
+            start: 148,
+            len: 151,
+        },
+        UNUSED,
+    ];
+    assert!(rt; desk.records == logged);
     let one_logged = &desk.bytes[0..148];
     let two_logged = &desk.bytes[148..299];
     let behind = &desk.bytes[299..460];
     assert!(rt; one_logged == &one.bytes[0..148] && two_logged == &two.bytes[0..151]);
     assert!(rt; behind == [9; 161].as_slice());
-    let [first, second, unused] = desk.records;
-    assert_eq!(rt;
-        [first.start, first.len, second.start, second.len],
-        [0, 148, 148, 151]
-    );
-    assert_eq!(rt;
-        [first.challenge.number(), second.challenge.number()],
-        [1, 2]
-    );
-    assert!(rt;
-        is_row(&first.commitments, &open)
-            && is_row(&second.commitments, &open)
-            && is_unused(&unused)
-    );
-    Ok(())
 }
 
-// Whether the row holds the contents of the commitments message, one behind another, and zeros.
-fn is_row(row: &[u8; 384], open: &Message) -> bool {
-    let one = &row[0..32];
-    let two = &row[32..64];
-    let three = &row[64..96];
-    let behind = &row[96..384];
-    let message = &open.bytes;
-    one == &message[3..35]
-        && two == &message[38..70]
-        && three == &message[73..105]
-        && behind == [0; 288].as_slice()
-}
-
-#[test]
-fn yeses_are_logged_one_behind_another(rt: HostRuntime) -> Result<(), Fail> {
-    two_yeses(&rt, short(), &SHORT_KEY)
+// The contents of the commitments message, one behind another, and zeros.
+fn row(open: &Message) -> [u8; 384] {
+    let mut row = [0; 384];
+    let first = open.bytes[3..35].iter();
+    let second = open.bytes[38..70].iter();
+    let third = open.bytes[73..105].iter();
+    for (place, byte) in row.iter_mut().zip(first.chain(second).chain(third)) {
+        *place = *byte;
+    }
+    row
 }

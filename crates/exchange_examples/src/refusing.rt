@@ -1,19 +1,12 @@
 // Each refusal of the exchange's calls, with its place, and that it changes nothing.
 use crate::desk::{Call, Change, Desk, Lent};
 use crate::honest::{SHORT_KEY, short, short_mask};
-use relation::Relation;
 use std::process::Abort;
 use std::test::*;
 
 // Makes the calls, and looks whether something was logged.
-fn check_calls<R: Relation + Drop>(
-    rt: &impl Abort,
-    relation: R,
-    key: &[R::Entry],
-    calls: &[(Call, (u8, usize))],
-    logged: bool,
-) -> Result<(), Fail> {
-    let mut desk = Desk::new(relation, key, &short_mask())?;
+fn check_calls(rt: &impl Abort, calls: &[(Call, (u8, usize))], logged: bool) -> Result<(), Fail> {
+    let mut desk = Desk::new(short()?, &SHORT_KEY, &short_mask())?;
     desk.check_calls(rt, calls);
     assert_eq!(rt; desk.nothing_logged(), !logged);
     Ok(())
@@ -24,8 +17,6 @@ fn check_calls<R: Relation + Drop>(
 fn open_refuses_lines_and_messages(rt: HostRuntime) -> Result<(), Fail> {
     check_calls(
         &rt,
-        short(),
-        &SHORT_KEY,
         &[
             (Call::Open(4, Change::Nothing), (40, 0)),
             (Call::Open(3, Change::Cut), (81, 70)),
@@ -44,8 +35,6 @@ fn open_refuses_lines_and_messages(rt: HostRuntime) -> Result<(), Fail> {
 fn lines_in_use_keep_commitments_and_challenge(rt: HostRuntime) -> Result<(), Fail> {
     check_calls(
         &rt,
-        short(),
-        &SHORT_KEY,
         &[
             (Call::Open(0, Change::Nothing), (0, 0)),
             (Call::Open(0, Change::Turned(3, 1)), (41, 0)),
@@ -62,8 +51,6 @@ fn lines_in_use_keep_commitments_and_challenge(rt: HostRuntime) -> Result<(), Fa
 fn dice_refuses_lines_and_the_byte_255(rt: HostRuntime) -> Result<(), Fail> {
     check_calls(
         &rt,
-        short(),
-        &SHORT_KEY,
         &[
             (Call::Dice(4, 0), (40, 0)),
             (Call::Dice(1, 0), (42, 0)),
@@ -80,8 +67,6 @@ fn dice_refuses_lines_and_the_byte_255(rt: HostRuntime) -> Result<(), Fail> {
 fn clear_refuses_free_lines(rt: HostRuntime) -> Result<(), Fail> {
     check_calls(
         &rt,
-        short(),
-        &SHORT_KEY,
         &[
             (Call::Clear(4), (40, 0)),
             (Call::Clear(2), (46, 0)),
@@ -101,8 +86,6 @@ fn clear_refuses_free_lines(rt: HostRuntime) -> Result<(), Fail> {
 fn judge_refuses_lines_that_are_not_challenged(rt: HostRuntime) -> Result<(), Fail> {
     check_calls(
         &rt,
-        short(),
-        &SHORT_KEY,
         &[
             (Call::Judge(4, 1, Change::Nothing), (40, 0)),
             (Call::Judge(0, 1, Change::Nothing), (44, 0)),
@@ -132,8 +115,6 @@ const fn lend(records: usize, bytes: usize, work: usize) -> (Call, (u8, usize)) 
 fn judge_refuses_short_memory(rt: HostRuntime) -> Result<(), Fail> {
     check_calls(
         &rt,
-        short(),
-        &SHORT_KEY,
         &[
             (Call::Open(0, Change::Nothing), (0, 0)),
             (Call::Dice(0, 0), (1, 0)),
@@ -153,8 +134,6 @@ fn judge_refuses_short_memory(rt: HostRuntime) -> Result<(), Fail> {
 fn judge_goes_on_with_more_memory(rt: HostRuntime) -> Result<(), Fail> {
     check_calls(
         &rt,
-        short(),
-        &SHORT_KEY,
         &[
             (Call::Open(0, Change::Nothing), (0, 0)),
             (Call::Dice(0, 0), (1, 0)),

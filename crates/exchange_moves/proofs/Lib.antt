@@ -1,4 +1,2 @@
 mod Decided
-mod Opened
 mod Ready
-mod Sums

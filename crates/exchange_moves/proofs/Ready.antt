@@ -4,6 +4,7 @@ use Rattle.std.specs.List.{AllByRecursion}
 use Rattle.std.proofs.ByRecursion.{All-from_get_or, All-take, All-drop}
 use Rattle.refusals.specs.declared.cause.Cause.{Cause}
 use Rattle.refusals.specs.declared.cause.Cause.TheVariants.{ResidueNotBelowModulus, NoPermutation}
+use Rattle.vectors.specs.declared.layout.Layout.{Layout}
 use Rattle.vectors.specs.Words.{bytes, words}
 use Rattle.vectors.specs.Residues.{Residues}
 use Rattle.vectors.specs.Layers.{Permutations}
@@ -147,22 +148,25 @@ module _ {E : Type 0} (relation : RelationMeaning E) (scheme : SchemeMeaning) (m
         upper_width = cc;
       }
 
-  -- as the code has them: the sizes, the modulus and the numbers of a layer and of layers
-  module _ (challenge : Challenge) (a : Answer) (asks : asked a ≡ challenge) (given : Sizes) (q N K : ℕ) (same_sizes : given ≡ sizes relation scheme) (same_q : q ≡ relation.q)
-      (same_len : N ≡ relation.layer_len) (same_count : K ≡ relation.layer_count) (h : Handed (answer_slots challenge given) message (answer_fields a)) where
+  -- as the code has them: the sizes, the modulus and the layout
+  module _ (challenge : Challenge) (a : Answer) (asks : asked a ≡ challenge) (given : Sizes) (q : ℕ) (layout : Layout) (same_sizes : given ≡ sizes relation scheme) (same_q : q ≡ relation.q)
+      (same_layout : layout ≡ record { layer_count = relation.layer_count; layer_len = relation.layer_len }) (h : Handed (answer_slots challenge given) message (answer_fields a)) where
+    abbrev found_by_code : Option Cause
+    found_by_code = answer_cause q layout.layer_len layout.layer_count a
+
     read : Read a
     read =
         subst (λ c. Handed (answer_slots c (sizes relation scheme)) message (answer_fields a)) (sym asks)
         (subst (λ s. Handed (answer_slots challenge s) message (answer_fields a)) same_sizes h)
 
-    found_read : (found : Option Cause) → found ≡ answer_cause q N K a → found ≡ answer_cause relation.q relation.layer_len relation.layer_count a
-    found_read found e = cc
+    found_read : found_by_code ≡ answer_cause relation.q relation.layer_len relation.layer_count a
+    found_read = ap₂ (λ r l. answer_cause r l.layer_len l.layer_count a) same_q same_layout
 
-    cause-asked : (found : Option Cause) → found ≡ answer_cause q N K a → (c : Triple) → cause relation scheme c challenge message ≡ or_else found (later_cause relation scheme c (said_by a))
-    cause-asked found e c = ap (λ x. cause relation scheme c x message) (sym asks) ∙ cause_read a found read (found_read found e) c
+    cause-asked : (found : Option Cause) → found_by_code ≡ found → (c : Triple) → cause relation scheme c challenge message ≡ or_else found (later_cause relation scheme c (said_by a))
+    cause-asked found e c = ap (λ x. cause relation scheme c x message) (sym asks) ∙ cause_read a found read (sym e ∙ found_read) c
 
-    pub checked : None ≡ answer_cause q N K a → Checked relation scheme challenge message a
-    checked e = record { ready = ready_read a read (sym (found_read None e)); cause = cause-asked None e }
+    pub checked : found_by_code ≡ None → Checked relation scheme challenge message a
+    checked e = record { ready = ready_read a read (sym found_read ∙ e); cause = cause-asked None e }
 
-    pub turned_down : (found : Cause) → Some found ≡ answer_cause q N K a → Early found × ((c : Triple) → cause relation scheme c challenge message ≡ Some found)
-    turned_down found e = (early_cause (answer_above q a) (answer_unpermuted N K a) found (sym e), cause-asked (Some found) e)
+    pub turned_down : (found : Cause) → found_by_code ≡ Some found → Early found × ((c : Triple) → cause relation scheme c challenge message ≡ Some found)
+    turned_down found e = (early_cause (answer_above q a) (answer_unpermuted layout.layer_len layout.layer_count a) found e, cause-asked (Some found) e)

@@ -6,6 +6,7 @@ use Rattle.refusals.specs.declared.cause.Cause.TheVariants.{Reader, ResidueNotBe
 use Rattle.relation.specs.Meaning.{RelationMeaning}
 use Rattle.commitment.specs.Meaning.{SchemeMeaning}
 use Rattle.messages.specs.declared.challenge.Challenge.{Challenge}
+use Rattle.messages.specs.declared.fields.Triple.{Triple as LentTriple}
 use Rattle.messages.specs.Checks.{or_else}
 use Rattle.messages.specs.Contents.{Said, said_to, answer_written}
 use Rattle.moves.specs.Moves.{Triple, Accepts}
@@ -17,6 +18,10 @@ judge_fault relation scheme work = or_else (limit_fault relation scheme) (work_f
 
 abbrev pub triple : List ℕ → List ℕ → List ℕ → Triple
 triple one two three = record { one = one; two = two; three = three }
+
+-- commitments that the code is lent
+abbrev pub lent : LentTriple → Triple
+lent c = triple c.one.now c.two.now c.three.now
 
 -- a verdict that needs a commitment computed leaves the scheme as newly made; the others leave it as it was
 abbrev pub Leaves : Option Cause → Type 0 → Type 0 → Type 0

@@ -4,7 +4,7 @@ ghost use Rattle.moves.specs.Moves.{Triple};
 ghost use Rattle.moves.specs.Causes.{cause as cause_of_no, sizes as message_sizes};
 ghost use Rattle.exchange_moves.specs.Stages.{Checked, Early};
 
-use answer_checks::answer_cause;
+use answer_checks::check_answer;
 use commitment::scheme::Scheme;
 use messages::challenge::Challenge;
 use messages::fields::{Answer, Sizes};
@@ -17,7 +17,7 @@ fn content_sizes<R: Relation, S: Scheme>(relation: &R, scheme: &S) -> Sizes
     ensures { result ≡ message_sizes (R.Relation.meaning relation.now) (S.Scheme.meaning scheme.now) }
 {
     Sizes {
-        layers: 2 * (relation.layer_count() * relation.layer_len()),
+        layers: 2 * relation.layout().size(),
         free: 2 * relation.free_len(),
         width: scheme.width(),
     }
@@ -35,17 +35,7 @@ pub fn read_checked<'a, R: Relation, S: Scheme>(
         (λ answer. Checked (R.Relation.meaning relation.now) (S.Scheme.meaning scheme.now) challenge message.now answer)
         (λ cause. Early cause × ((c : Triple) → cause_of_no (R.Relation.meaning relation.now) (S.Scheme.meaning scheme.now) c challenge message.now ≡ Some cause)) }
 {
-    let answer = match read_answer(message, challenge, content_sizes(relation, scheme)) {
-        Ok(answer) => answer,
-        Err(fault) => return Err(Cause::from(fault)),
-    };
-    if let Some(cause) = answer_cause(
-        &answer,
-        relation.modulus(),
-        relation.layer_len(),
-        relation.layer_count(),
-    ) {
-        return Err(cause);
-    }
+    let answer = read_answer(message, challenge, content_sizes(relation, scheme))?;
+    check_answer(&answer, relation.modulus(), relation.layout())?;
     Ok(answer)
 }

@@ -1,7 +1,7 @@
 // Masks of the largest sizes, and of the longest free part: drawn from fixed bytes that look random, and checked.
 use crate::widest::Widest;
-use masks::check::check_mask;
 use masks::draw::draw;
+use masks::mask::{Mask, MaskMut};
 use noise_statement::noise::Noise;
 use refusals::refusal::Refusal;
 use relation::Relation;
@@ -12,31 +12,27 @@ use std::test::Fail;
 static ONES: [u16; 256] = [1; 256];
 
 // 15 layers of 768 entries, and no free part.
-fn most_layers() -> Short<'static> {
-    let mut short = Short::smallest();
-    let _ = short.set(Given {
+fn most_layers() -> Result<Short<'static>, Refusal> {
+    Short::new(Given {
         modulus: 65535,
         rows: 1,
         columns: 256,
         bound: 32767,
         matrix: &ONES,
         target: &[0],
-    });
-    short
+    })
 }
 
 // One layer of one entry, and a free part of 256 entries.
-fn longest_free_part() -> Noise<'static> {
-    let mut noise = Noise::smallest();
-    let _ = noise.set(Given {
+fn longest_free_part() -> Result<Noise<'static>, Refusal> {
+    Noise::new(Given {
         modulus: 2,
         rows: 1,
         columns: 256,
         bound: 1,
         matrix: &ONES,
         target: &[0],
-    });
-    noise
+    })
 }
 
 const SCHEME: Widest = Widest { coins: [0; 128] };
@@ -59,14 +55,52 @@ fn number<T: Drop>(answer: Result<T, Refusal>) -> u8 {
     }
 }
 
-// What the checker says of a mask.
-fn checking<R: Relation>(relation: &R, p: &[u16], r: &[u16], free: &[u16], coins: &[u8]) -> u8 {
-    number(check_mask(relation, &SCHEME, p, r, free, coins))
+// The parts of a mask, with this many entries in its layers and in its free part.
+#[derive(Drop)]
+struct Parts<const ENTRIES: usize, const FREE: usize> {
+    permutations: [u16; ENTRIES],
+    layers: [u16; ENTRIES],
+    free: [u16; FREE],
+    coins: [u8; 384],
+}
+
+impl<const ENTRIES: usize, const FREE: usize> Parts<ENTRIES, FREE> {
+    // Parts that hold no mask yet.
+    fn filled(number: u16, coin: u8) -> Self {
+        Parts {
+            permutations: [number; ENTRIES],
+            layers: [number; ENTRIES],
+            free: [number; FREE],
+            coins: [coin; 384],
+        }
+    }
+
+    // Draws the mask, and says how many bytes that took.
+    fn draw<R: Relation>(&mut self, relation: &R, random: &[u8]) -> Result<usize, Refusal> {
+        let mut places = MaskMut {
+            permutations: &mut self.permutations,
+            layers: &mut self.layers,
+            free: &mut self.free,
+            coins: &mut self.coins,
+        };
+        draw(relation, &SCHEME, random, &mut places)
+    }
+
+    // What the checker says of the mask with this free part.
+    fn checked<R: Relation>(&self, relation: &R, free: &[u16]) -> u8 {
+        let mask = Mask {
+            permutations: &self.permutations,
+            layers: &self.layers,
+            free,
+            coins: &self.coins,
+        };
+        number(mask.check(relation, &SCHEME))
+    }
 }
 
 #[test]
 fn most_layers_are_drawn(rt: HostRuntime) -> Result<(), Fail> {
-    let relation = most_layers();
+    let relation = most_layers()?;
     assert_eq!(rt;
         [
             relation.layer_count(),
@@ -76,69 +110,47 @@ fn most_layers_are_drawn(rt: HostRuntime) -> Result<(), Fail> {
         [15, 768, 0]
     );
     let random = random();
-    let mut p = [0; 11520];
-    let mut r = [0; 11520];
-    let mut coins = [0; 384];
-    let read = draw(
-        &relation,
-        &SCHEME,
-        &random,
-        &mut p,
-        &mut r,
-        &mut [],
-        &mut coins,
-    )?;
+    let mut parts = Parts::<11520, 0>::filled(0, 0);
+    let read = parts.draw(&relation, &random)?;
     assert!(rt; 384 <= read && read <= 50000);
-    assert!(rt; coins.as_slice() == &random[read - 384..read]);
-    assert_eq!(rt; checking(&relation, &p, &r, &[], &coins), 0);
-    p[767] = p[0];
-    assert_eq!(rt; checking(&relation, &p, &r, &[], &coins), 33);
+    assert!(rt; parts.coins.as_slice() == &random[read - 384..read]);
+    assert_eq!(rt; parts.checked(&relation, &[]), 0);
+    parts.permutations[767] = parts.permutations[0];
+    assert_eq!(rt; parts.checked(&relation, &[]), 33);
     Ok(())
 }
 
 #[test]
 fn one_byte_less_runs_out(rt: HostRuntime) -> Result<(), Fail> {
-    let relation = most_layers();
+    let relation = most_layers()?;
     let random = random();
-    let mut p = [9; 11520];
-    let mut r = [9; 11520];
-    let mut free = [];
-    let mut coins = [9; 384];
-    let read = draw(
-        &relation, &SCHEME, &random, &mut p, &mut r, &mut free, &mut coins,
-    )?;
+    let mut parts = Parts::<11520, 0>::filled(9, 9);
+    let read = parts.draw(&relation, &random)?;
     assert!(rt; 1 <= read && read <= 50000);
-    let less = &random[0..read - 1];
-    let again = draw(
-        &relation, &SCHEME, less, &mut p, &mut r, &mut free, &mut coins,
-    );
-    assert_eq!(rt; number(again), 71);
-    assert!(rt; p == [0; 11520] && r == [0; 11520] && coins == [0; 384]);
+    assert_eq!(rt; number(parts.draw(&relation, &random[0..read - 1])), 71);
+    assert_eq!(rt; parts.permutations, [0; 11520]);
+    assert_eq!(rt; parts.layers, [0; 11520]);
+    assert_eq!(rt; parts.coins, [0; 384]);
     Ok(())
 }
 
 #[test]
 fn longest_free_part_is_drawn(rt: HostRuntime) -> Result<(), Fail> {
-    let relation = longest_free_part();
+    let relation = longest_free_part()?;
     let random = random();
-    let mut p = [9; 1];
-    let mut r = [9; 1];
-    let mut free = [9; 256];
-    let mut coins = [0; 384];
-    let read = draw(
-        &relation, &SCHEME, &random, &mut p, &mut r, &mut free, &mut coins,
-    )?;
+    let mut parts = Parts::<1, 256>::filled(9, 0);
+    let read = parts.draw(&relation, &random)?;
     // a permutation of one place takes no word, and modulo 2 no word is skipped
     assert_eq!(rt; read, 898);
-    assert_eq!(rt; p, [0]);
-    assert_eq!(rt; r, [random[1] as u16 % 2]);
-    for i in 0..256 {
-        assert_eq!(rt; free[i], random[2 * i + 3] as u16 % 2);
+    assert_eq!(rt; parts.permutations, [0]);
+    assert_eq!(rt; parts.layers, [random[1] as u16 % 2]);
+    for (i, number) in parts.free.iter().enumerate() {
+        assert_eq!(rt; *number, random[2 * i + 3] as u16 % 2);
     }
-    assert!(rt; coins.as_slice() == &random[514..898]);
-    assert_eq!(rt; checking(&relation, &p, &r, &free, &coins), 0);
-    free[255] = 2;
-    assert_eq!(rt; checking(&relation, &p, &r, &free, &coins), 33);
-    assert_eq!(rt; checking(&relation, &p, &r, &free[0..255], &coins), 32);
+    assert!(rt; parts.coins.as_slice() == &random[514..898]);
+    assert_eq!(rt; parts.checked(&relation, &parts.free), 0);
+    parts.free[255] = 2;
+    assert_eq!(rt; parts.checked(&relation, &parts.free), 33);
+    assert_eq!(rt; parts.checked(&relation, &parts.free[0..255]), 32);
     Ok(())
 }

@@ -58,12 +58,7 @@ module _ {E : Type 0} (relation : RelationMeaning E) (width : ℕ) (mask : Mask)
   not_formed : (n : ℕ) → mask_fault relation width mask ≡ Some n → WellFormed relation width mask → ⊥
   not_formed n e h = true≢false (ap is_some (sym e ∙ mask_fault_none h))
 
-  -- what the check promises where it refuses
-  pub refused_by_length : false ≡ sized relation width mask → (mask_fault relation width mask ≡ Some 32) × (WellFormed relation width mask → ⊥)
-  refused_by_length s =
-      let fault : mask_fault relation width mask ≡ Some 32 = cond-false (sized relation width mask) _ _ (sym s) in
-      (fault, not_formed 32 fault)
-
+  -- what the check promises where it refuses the content
   pub refused_by_content : true ≡ sized relation width mask → false ≡ sound relation width mask → (mask_fault relation width mask ≡ Some 33) × (WellFormed relation width mask → ⊥)
   refused_by_content s t =
       let fault : mask_fault relation width mask ≡ Some 33 = cond-true (sized relation width mask) _ _ (sym s) ∙ cond-false (sound relation width mask) _ _ (sym t) in

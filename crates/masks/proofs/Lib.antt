@@ -1,4 +1,3 @@
-pub mod Below
 pub mod Sequences
 pub mod Exchanges
 pub mod Checked

@@ -1,10 +1,10 @@
 -- Drawing one thing after another, and writing what was drawn behind what is there.
-use Rattle.std.proofs.Common.{◌≡◌, ℕ, suc, ◌+◌, ◌-◌, ◌*◌, ◌<◌, ◌≤◌, List, [], ◌∷◌, ◌++◌, length, take, drop, set, Some, None, Option, sym, refl, ap, ◌∙◌, subst, mul-le-mul_right, arith}
+use Rattle.std.proofs.Common.{◌≡◌, ℕ, suc, ◌+◌, ◌-◌, ◌*◌, ◌<◌, List, [], ◌∷◌, ◌++◌, length, take, drop, set, Some, None, Option, sym, refl, ap, ◌∙◌, subst, arith}
 use borrow.Rule.Slice.PartMut.{put_mid}
 use Rattle.std.specs.List.{swap}
-use Rattle.std.proofs.lemmas.List.{append-nil, append_assoc, take_all, take_more_set}
+use Rattle.std.proofs.lemmas.List.{append_assoc, take_more_set}
 use Rattle.std.proofs.lemmas.Slice.{take-put_mid}
-use Rattle.vectors.proofs.Layers.{row_within, row_layer, length-layer}
+use Rattle.vectors.proofs.Layers.{row_within, row_at, length-layer}
 use Rattle.masks.specs.Draw.{Drawn, then_draw, draw_below, draw_exchanges, draw_permutation, draw_permutations, draw_residues}
 use Rattle.masks.specs.Sources.{draw_exchange}
 
@@ -20,10 +20,6 @@ ahead_append xs ys (Some drawn) = ap (λ value. Some (record { value = value; re
 -- a draw is written behind the first entries: one step, and both ends
 pub ahead_more : (xs xs' ys : List ℕ) (drawn drawn' goal : Option (Drawn (List ℕ))) → xs' ≡ xs ++ ys → drawn ≡ ahead ys drawn' → ahead xs drawn ≡ goal → ahead xs' drawn' ≡ goal
 ahead_more xs xs' ys drawn drawn' goal e d h = ap (λ xs. ahead xs drawn') e ∙ ahead_append xs ys drawn' ∙ ap (ahead xs) (sym d) ∙ h
-
-pub ahead_all : (xs ys rest : List ℕ) (drawn goal : Option (Drawn (List ℕ))) → ys ≡ xs → drawn ≡ Some (record { value = []; rest = rest }) → ahead ys drawn ≡ goal → goal ≡ Some (record { value = xs; rest = rest })
-ahead_all xs ys rest drawn goal e d h =
-    sym h ∙ ap (ahead ys) d ∙ ap (λ value. Some (record { value = value; rest = rest })) (append-nil ys ∙ e)
 
 pub ahead_none : (xs : List ℕ) (drawn goal : Option (Drawn (List ℕ))) → drawn ≡ None → ahead xs drawn ≡ goal → goal ≡ None
 ahead_none xs drawn goal d h = sym h ∙ ap (ahead xs) d
@@ -76,16 +72,6 @@ module _ (q n i : ℕ) (l : i < n) (bytes : List ℕ) where
   residues_none xs goal d h =
       ahead_none xs (draw_residues q (n - i) bytes) goal (residues_at ∙ ap (λ o. then_draw o (λ first rest. ahead (first ∷ []) (draw_residues q (n - (i + 1)) rest))) d) h
 
-pub residues_all : (q n i : ℕ) (xs bytes : List ℕ) (goal : Option (Drawn (List ℕ))) → length xs ≡ n → n ≤ i
-    → ahead (take i xs) (draw_residues q (n - i) bytes) ≡ goal → goal ≡ Some (record { value = xs; rest = bytes })
-residues_all q n i xs bytes goal e l h =
-    let none : n - i ≡ 0 = omega arith in
-    ahead_all xs (take i xs) bytes (draw_residues q (n - i) bytes) goal (take_all i xs (omega arith)) (ap (λ m. draw_residues q m bytes) none) h
-
--- the length of layer j as the checker reads `&ps[j * N..j * N + N]`
-pub length_row : (N K j : ℕ) (ps : List ℕ) → length ps ≡ K * N → j < K → length (take (j * N + N - j * N) (drop (j * N) ps)) ≡ N
-length_row N K j ps e l = ap length (row_layer N j ps) ∙ length-layer N K ps j e l
-
 permutations-first : (N K : ℕ) (bytes : List ℕ) → draw_permutations N (suc K) bytes ≡ then_draw (draw_permutation N bytes) (λ first rest. ahead first (draw_permutations N K rest))
 permutations-first N K bytes = go (draw_permutation N bytes)
   where
@@ -104,24 +90,24 @@ module _ (N K j : ℕ) (l : j < K) (bytes : List ℕ) where
       let e : suc (K - (j + 1)) ≡ K - j = omega arith in
       ap (λ m. draw_permutations N m bytes) (sym e) ∙ permutations-first N (K - (j + 1)) bytes
 
-  -- `size` is the length of the row that was drawn, as the checker reads it, and k that of the part written over
-  module _ (size k : ℕ) (n : size ≡ N) where
-    pub permutations_more : (ps part rest : List ℕ) (goal : Option (Drawn (List ℕ))) → length ps ≡ K * N → length part ≡ size → draw_permutation size bytes ≡ Some (record { value = part; rest = rest })
-        → ahead (take (j * N) ps) (draw_permutations N (K - j) bytes) ≡ goal → ahead (take ((j + 1) * N) (put_mid (j * N) k ps part)) (draw_permutations N (K - (j + 1)) rest) ≡ goal
-    permutations_more ps part rest goal e f d h =
+  -- the row of layer j in `ps`, as the checker reads it, lies from `start` to `end`
+  module _ (ps : List ℕ) (long : length ps ≡ K * N) (start end : ℕ) (s : start ≡ j * N) (t : end ≡ j * N + N) where
+    abbrev size : ℕ
+    size = length (take (end - start) (drop start ps))
+
+    row_drawn : (o : Option (Drawn (List ℕ))) → draw_permutation size bytes ≡ o → draw_permutations N (K - j) bytes ≡ then_draw o (λ first rest. ahead first (draw_permutations N (K - (j + 1)) rest))
+    row_drawn o d =
+        let n : size ≡ N = ap length (row_at N j start end ps s t) ∙ length-layer N K ps j long l in
+        permutations_at ∙ ap (λ o. then_draw o (λ first rest. ahead first (draw_permutations N (K - (j + 1)) rest))) (ap (λ n. draw_permutation n bytes) (sym n) ∙ d)
+
+    pub permutations_more : (part rest : List ℕ) (goal : Option (Drawn (List ℕ))) → length part ≡ size → draw_permutation size bytes ≡ Some (record { value = part; rest = rest })
+        → ahead (take (j * N) ps) (draw_permutations N (K - j) bytes) ≡ goal → ahead (take ((j + 1) * N) (put_mid start (end - start) ps part)) (draw_permutations N (K - (j + 1)) rest) ≡ goal
+    permutations_more part rest goal f d h =
         let within = row_within j K N l in
-        let end : (j + 1) * N ≡ j * N + length part = omega arith in
-        ahead_more (take (j * N) ps) (take ((j + 1) * N) (put_mid (j * N) k ps part)) part (draw_permutations N (K - j) bytes) (draw_permutations N (K - (j + 1)) rest) goal
-        (take-put_mid (j * N) k ps part ((j + 1) * N) end (omega arith))
-        (permutations_at ∙ ap (λ o. then_draw o (λ first rest. ahead first (draw_permutations N (K - (j + 1)) rest))) (ap (λ n. draw_permutation n bytes) (sym n) ∙ d)) h
+        let n : size ≡ N = ap length (row_at N j start end ps s t) ∙ length-layer N K ps j long l in
+        let behind : (j + 1) * N ≡ start + length part = omega arith in
+        ahead_more (take (j * N) ps) (take ((j + 1) * N) (put_mid start (end - start) ps part)) part (draw_permutations N (K - j) bytes) (draw_permutations N (K - (j + 1)) rest) goal
+        (take-put_mid start (end - start) ps part ((j + 1) * N) behind (omega arith) ∙ ap (λ n. take n ps ++ part) s) (row_drawn _ d) h
 
     pub permutations_none : (xs : List ℕ) (goal : Option (Drawn (List ℕ))) → draw_permutation size bytes ≡ None → ahead xs (draw_permutations N (K - j) bytes) ≡ goal → goal ≡ None
-    permutations_none xs goal d h =
-        ahead_none xs (draw_permutations N (K - j) bytes) goal
-        (permutations_at ∙ ap (λ o. then_draw o (λ first rest. ahead first (draw_permutations N (K - (j + 1)) rest))) (ap (λ n. draw_permutation n bytes) (sym n) ∙ d)) h
-
-pub permutations_all : (N K j : ℕ) (ps bytes : List ℕ) (goal : Option (Drawn (List ℕ))) → length ps ≡ K * N → K ≤ j
-    → ahead (take (j * N) ps) (draw_permutations N (K - j) bytes) ≡ goal → goal ≡ Some (record { value = ps; rest = bytes })
-permutations_all N K j ps bytes goal e l h =
-    let none : K - j ≡ 0 = omega arith in
-    ahead_all ps (take (j * N) ps) bytes (draw_permutations N (K - j) bytes) goal (take_all (j * N) ps (omega (arith, mul-le-mul_right N l))) (ap (λ m. draw_permutations N m bytes) none) h
+    permutations_none xs goal d h = ahead_none xs (draw_permutations N (K - j) bytes) goal (row_drawn None d) h

@@ -5,19 +5,22 @@ ghost use Rattle.masks.specs.Draw.{draw_permutation, draw_permutations};
 ghost use Rattle.masks.specs.Sources.{written, draw_exchange};
 
 use crate::source::Source;
+use std::ops::Range;
+use vectors::layout::Layout;
 
 fn count_up(positions: &mut [u16])
     requires { length positions.old ≤ 768 }
     ensures { positions.new ≡ range_with_len 0 (length positions.old) }
 {
-    for i in 0..positions.len() {
-        positions[i] = i as u16;
+    for (i, position) in positions.iter_mut().enumerate() {
+        *position = i as u16;
     }
 }
 
 // Draws a place up to i and exchanges it with place i.
 fn exchange_with(source: &mut Source, positions: &mut [u16], i: usize) -> Option<()>
-    requires { (i < length positions.old) × (i < 768) }
+    requires place { i < length positions.old }
+    requires short { i < 768 }
     ensures { draw_exchange i positions.old source.old.left.now ≡ written result positions.new source.new.left.now }
 {
     let place = source.number_below((i + 1) as u16)?;
@@ -31,6 +34,7 @@ pub fn draw_permutation(source: &mut Source, positions: &mut [u16]) -> Option<()
     ensures { draw_permutation (length positions.old) source.old.left.now ≡ written result positions.new source.new.left.now }
 {
     count_up(positions);
+    // by place: each exchange is between place i and a lower one
     for i in (1..positions.len()).rev() {
         exchange_with(source, positions, i)?;
     }
@@ -40,16 +44,17 @@ pub fn draw_permutation(source: &mut Source, positions: &mut [u16]) -> Option<()
 // Draws a permutation for each layer. None where the bytes run out.
 pub(crate) fn draw_permutations(
     source: &mut Source,
-    layer_len: usize,
-    layer_count: usize,
+    layout: Layout,
     positions: &mut [u16],
 ) -> Option<()>
-    requires { (length positions.old ≡ layer_count * layer_len) × (layer_len ≤ 768) }
-    ensures { draw_permutations layer_len layer_count source.old.left.now ≡ written result positions.new source.new.left.now }
+    requires whole { length positions.old ≡ layout.layer_count * layout.layer_len }
+    requires short { layout.layer_len ≤ 768 }
+    ensures { draw_permutations layout.layer_len layout.layer_count source.old.left.now ≡ written result positions.new source.new.left.now }
 {
-    for j in 0..layer_count {
-        let from = j * layer_len;
-        draw_permutation(source, &mut positions[from..from + layer_len])?;
+    // by the layer's number: of the chunks of `chunks_exact_mut` a proof knows only the length
+    for j in 0..layout.layer_count {
+        let Range { start, end } = layout.places(j);
+        draw_permutation(source, &mut positions[start..end])?;
     }
     Some(())
 }

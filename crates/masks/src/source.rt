@@ -21,7 +21,7 @@ impl Source<'_> {
                 break 'words None;
             };
             self.left = rest;
-            let word = *high as u16 * 256 + *low as u16;
+            let word = u16::from_be_bytes([*high, *low]);
             if is_accepted(word, bound) {
                 break 'words Some(word % bound);
             }

@@ -1,40 +1,33 @@
 // Messages of the smallest and the largest sizes: written, and read back with their contents and offsets.
+ghost use Rattle.std.specs.Prelude.{◌≤◌};
+
 use messages::challenge::Challenge;
-use messages::fields::{Answer, Field, Sizes};
+use messages::fields::{Answer, Field, Sizes, Triple};
 use messages::reader::{read_answer, read_commitments};
 use messages::writer::{write_commitments, write_first, write_second, write_third};
+use std::array;
 use std::process::Abort;
 use std::test::Fail;
+use vectors::layout::Layout;
 use vectors::modular::all_below;
 
 // Whether the bytes are these numbers, two bytes each, the high byte first.
 fn holds(content: &[u8], numbers: &[u16]) -> bool {
-    let mut left = content;
-    for number in numbers {
-        let [high, low, rest @ ..] = left else {
-            return false;
-        };
-        if *high as u16 * 256 + *low as u16 != *number {
-            return false;
-        }
-        left = rest;
-    }
-    left.is_empty()
+    let (pairs, rest) = content.as_chunks::<2>();
+    rest.is_empty()
+        && pairs.len() == numbers.len()
+        && pairs
+            .iter()
+            .zip(numbers)
+            .all(|(pair, number)| u16::from_be_bytes(*pair) == *number)
 }
 
-// The layers, each moved by its own permutation.
-fn moved<const L: usize>(positions: &[u16; L], layers: &[u16; L], layer_len: u16) -> [u16; L] {
-    let mut moved = [0; L];
-    let mut from: usize = 0;
-    let mut within: u16 = 0;
-    for i in 0..L {
-        let place = from.saturating_add(positions[i] as usize);
+// The layers of 768 entries, each moved by its own permutation.
+fn moved(positions: &[u16; 11520], layers: &[u16; 11520]) -> [u16; 11520] {
+    let mut moved = [0; 11520];
+    for (i, position) in positions.iter().enumerate() {
+        let place = i / 768 * 768 + *position as usize;
         moved[i] = layers.get(place).copied().unwrap_or(0);
-        within = within.saturating_add(1);
-        if within == layer_len {
-            from = from.saturating_add(layer_len as usize);
-            within = 0;
-        }
     }
     moved
 }
@@ -111,7 +104,17 @@ fn check_read(
 #[test]
 fn commitments_of_width_1(rt: HostRuntime) -> Result<(), Fail> {
     let mut message = [0; 12];
-    assert_eq!(rt; write_commitments(&mut message, &[7], &[8], &[9])?, 12);
+    assert_eq!(rt;
+        write_commitments(
+            &mut message,
+            Triple {
+                one: &[7],
+                two: &[8],
+                three: &[9]
+            }
+        )?,
+        12
+    );
     assert_eq!(rt; message, [1, 0, 1, 7, 2, 0, 1, 8, 3, 0, 1, 9]);
     let read = read_commitments(&message, 1)?;
     assert_eq!(rt;
@@ -125,7 +128,14 @@ fn commitments_of_width_1(rt: HostRuntime) -> Result<(), Fail> {
 fn commitments_of_width_128(rt: HostRuntime) -> Result<(), Fail> {
     let mut message = [0; 393];
     assert_eq!(rt;
-        write_commitments(&mut message, &[7; 128], &[8; 128], &[9; 128])?,
+        write_commitments(
+            &mut message,
+            Triple {
+                one: &[7; 128],
+                two: &[8; 128],
+                three: &[9; 128]
+            }
+        )?,
         393
     );
     let read = read_commitments(&message, 128)?;
@@ -151,7 +161,18 @@ fn smallest(rt: HostRuntime) -> Result<(), Fail> {
     };
     let mut first = [0; 18];
     assert_eq!(rt;
-        write_first(&mut first, &[0], &[300], &[6], 1, 1, &[7], &[8]),
+        write_first(
+            &mut first,
+            &[0],
+            &[300],
+            &[6],
+            Layout {
+                layer_count: 1,
+                layer_len: 1
+            },
+            &[7],
+            &[8]
+        ),
         18
     );
     assert_eq!(rt;
@@ -193,14 +214,6 @@ fn smallest(rt: HostRuntime) -> Result<(), Fail> {
     check_read(&rt, &message, Challenge::Three, sizes, wanted)
 }
 
-fn free_part() -> [u16; 256] {
-    let mut numbers = [0; 256];
-    for i in 0..256 {
-        numbers[i] = (65535 - i) as u16;
-    }
-    numbers
-}
-
 // One layer of two entries, a free part of 256 entries, a width of four bytes.
 #[test]
 fn longest_free_part(rt: HostRuntime) -> Result<(), Fail> {
@@ -209,7 +222,7 @@ fn longest_free_part(rt: HostRuntime) -> Result<(), Fail> {
         free: 512,
         width: 4,
     };
-    let free = free_part();
+    let free = falling::<256>();
     let wanted = Wanted {
         first: &[1, 0],
         second: &[5, 6],
@@ -240,34 +253,24 @@ const LARGEST: Sizes = Sizes {
 
 // In layer j, position i is i + j modulo 768.
 fn turned() -> [u16; 11520] {
-    let mut positions = [0; 11520];
-    for i in 0..11520 {
-        positions[i] = ((i + i / 768) % 768) as u16;
-    }
-    positions
+    array::from_fn(|i| ((i + i / 768) % 768) as u16)
 }
 
 fn rising() -> [u16; 11520] {
-    let mut numbers = [0; 11520];
-    for i in 0..11520 {
-        numbers[i] = (5 * i + 1) as u16;
-    }
-    numbers
+    array::from_fn(|i| (5 * i + 1) as u16)
 }
 
-fn falling() -> [u16; 11520] {
-    let mut numbers = [0; 11520];
-    for i in 0..11520 {
-        numbers[i] = (65535 - i) as u16;
-    }
-    numbers
+fn falling<const N: usize>() -> [u16; N]
+    requires { N ≤ 65536 }
+{
+    array::from_fn(|i| (65535 - i) as u16)
 }
 
 #[test]
 fn largest_answer_to_challenge_1(rt: HostRuntime) -> Result<(), Fail> {
     let positions = turned();
     let key = rising();
-    let mask = falling();
+    let mask = falling::<11520>();
     if !all_below(&positions, 768) {
         return Err(Fail::new("a position outside the layer"));
     }
@@ -277,15 +280,17 @@ fn largest_answer_to_challenge_1(rt: HostRuntime) -> Result<(), Fail> {
         &positions,
         &key,
         &mask,
-        768,
-        15,
+        Layout {
+            layer_count: 15,
+            layer_len: 768,
+        },
         &[7; 128],
         &[8; 128],
     );
     assert_eq!(rt; size, 46348);
     let wanted = Wanted {
-        first: &moved(&positions, &key, 768),
-        second: &moved(&positions, &mask, 768),
+        first: &moved(&positions, &key),
+        second: &moved(&positions, &mask),
         free: &[],
         lower: &[7; 128],
         upper: &[8; 128],
@@ -297,7 +302,7 @@ fn largest_answer_to_challenge_1(rt: HostRuntime) -> Result<(), Fail> {
 #[test]
 fn largest_answers_to_challenges_2_and_3(rt: HostRuntime) -> Result<(), Fail> {
     let positions = turned();
-    let layers = falling();
+    let layers = falling::<11520>();
     let wanted = Wanted {
         first: &positions,
         second: &layers,

@@ -8,14 +8,15 @@ mod refusing;
 
 #[cfg(test)]
 mod tests {
-    use answer_checks::answer_cause;
+    use answer_checks::check_answer;
     use messages::challenge::Challenge;
-    use messages::fields::{Answer, Sizes};
+    use messages::fields::{Answer, Sizes, Triple};
     use messages::reader::{read_answer, read_commitments};
     use messages::writer::{write_commitments, write_first, write_second, write_third};
     use refusals::cause::Cause;
     use refusals::fault::{Fault, FaultKind};
     use std::test::Fail;
+    use vectors::layout::Layout;
 
     // Two layers of two entries, a free part of one entry, a width of four bytes.
     const SMALL: Sizes = Sizes {
@@ -24,28 +25,37 @@ mod tests {
         width: 4,
     };
 
+    const LAYOUT: Layout = Layout {
+        layer_count: 2,
+        layer_len: 2,
+    };
+
     fn commitments_fault(message: &[u8]) -> Option<Fault> {
-        match read_commitments(message, 2) {
-            Ok(_) => None,
-            Err(fault) => Some(fault),
-        }
+        read_commitments(message, 2).err()
     }
 
     fn fault(kind: FaultKind, place: usize) -> Option<Fault> {
         Some(Fault { kind, place })
     }
 
-    // What the checks say of an answer that the reader takes, at the modulus 7.
-    fn cause(message: &[u8], challenge: Challenge) -> Result<Option<Cause>, Fault> {
+    // What reader and checks say of an answer, at the modulus 7.
+    fn check(message: &[u8], challenge: Challenge) -> Result<(), Cause> {
         let answer = read_answer(message, challenge, SMALL)?;
-        Ok(answer_cause(&answer, 7, 2, 2))
+        check_answer(&answer, 7, LAYOUT)
     }
 
     #[test]
     fn commitments_of_width_32_are_read_back(rt: HostRuntime) -> Result<(), Fail> {
         let mut out = [9u8; 106];
         assert_eq!(rt;
-            write_commitments(&mut out, &[1; 32], &[2; 32], &[3; 32])?,
+            write_commitments(
+                &mut out,
+                Triple {
+                    one: &[1; 32],
+                    two: &[2; 32],
+                    three: &[3; 32]
+                }
+            )?,
             105
         );
         assert_eq!(rt; out[105], 9);
@@ -90,8 +100,7 @@ mod tests {
             &[1, 0, 0, 1],
             &[5, 6, 3, 4],
             &[1, 2, 3, 258],
-            2,
-            2,
+            LAYOUT,
             b"two.",
             b"tres",
         );
@@ -120,8 +129,8 @@ mod tests {
         );
         // the last entry of the permuted mask is 258
         assert_eq!(rt;
-            cause(&out, Challenge::One)?,
-            Some(Cause::ResidueNotBelowModulus { offset: 20 })
+            check(&out, Challenge::One),
+            Err(Cause::ResidueNotBelowModulus { offset: 20 })
         );
         Ok(())
     }
@@ -160,8 +169,8 @@ mod tests {
         );
         // the residue of the free part comes before the list that is no permutation
         assert_eq!(rt;
-            cause(&out, Challenge::Two)?,
-            Some(Cause::ResidueNotBelowModulus { offset: 25 })
+            check(&out, Challenge::Two),
+            Err(Cause::ResidueNotBelowModulus { offset: 25 })
         );
         Ok(())
     }
@@ -199,8 +208,8 @@ mod tests {
             [0, 11, 22, 27, 34]
         );
         assert_eq!(rt;
-            cause(&out, Challenge::Three)?,
-            Some(Cause::NoPermutation { layer: 1 })
+            check(&out, Challenge::Three),
+            Err(Cause::NoPermutation { layer: 1 })
         );
         Ok(())
     }

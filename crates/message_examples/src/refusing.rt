@@ -1,17 +1,23 @@
 // Right messages that were cut, changed in a head, or made longer: each is refused with its number and place.
 use messages::challenge::Challenge;
-use messages::fields::Sizes;
+use messages::fields::{Sizes, Triple};
 use messages::reader::{read_answer, read_commitments};
 use messages::writer::{write_commitments, write_first, write_second, write_third};
 use refusals::fault::Fault;
 use std::process::Abort;
 use std::test::Fail;
+use vectors::layout::Layout;
 
 // Two layers of three entries, a free part of two entries, a width of four bytes.
 const SMALL: Sizes = Sizes {
     layers: 12,
     free: 4,
     width: 4,
+};
+
+const LAYOUT: Layout = Layout {
+    layer_count: 2,
+    layer_len: 3,
 };
 
 const POSITIONS: [u16; 6] = [1, 2, 0, 2, 1, 0];
@@ -21,6 +27,12 @@ const KEY: [u16; 6] = [1, 0, 6, 0, 1, 6];
 const MASK: [u16; 6] = [258, 4, 3, 2, 1, 0];
 
 const FREE: [u16; 2] = [5, 515];
+
+const COMMITTED: Triple = Triple {
+    one: b"one.",
+    two: b"two.",
+    three: b"tres",
+};
 
 // What a message is read as.
 #[derive(Clone, Copy)]
@@ -67,10 +79,8 @@ const THIRD: [Slot; 5] = [
 
 // The number and the place of a fault, or zeros.
 fn outcome<T: Drop>(read: Result<T, Fault>) -> (u8, usize) {
-    match read {
-        Ok(_) => (0, 0),
-        Err(fault) => (fault.kind.number(), fault.place),
-    }
+    read.err()
+        .map_or((0, 0), |fault| (fault.kind.number(), fault.place))
 }
 
 fn reading(kind: Kind, message: &[u8]) -> (u8, usize) {
@@ -123,7 +133,7 @@ fn check_heads<const N: usize>(
     slots: &[Slot],
     message: &[u8; N],
 ) -> Result<(), Fail> {
-    for place in 0..N {
+    for (place, right) in message.iter().enumerate() {
         let Some((slot, offset)) = slot_at(slots, place) else {
             return Err(Fail::new("the message is longer than its fields"));
         };
@@ -135,7 +145,7 @@ fn check_heads<const N: usize>(
                 let mut head = [slot.tag, 0, slot.size];
                 head[byte] = value as u8;
                 let number = number_by_rule(slot, head, N.saturating_sub(offset).saturating_sub(3));
-                let wanted = if changed[place] == message[place] {
+                let wanted = if value as u8 == *right {
                     (0, 0)
                 } else {
                     (number, offset)
@@ -160,10 +170,7 @@ fn check_refusals<const N: usize>(
 #[test]
 fn commitments(rt: HostRuntime) -> Result<(), Fail> {
     let mut message = [0; 21];
-    assert_eq!(rt;
-        write_commitments(&mut message, b"one.", b"two.", b"tres")?,
-        21
-    );
+    assert_eq!(rt; write_commitments(&mut message, COMMITTED)?, 21);
     check_refusals(&rt, Kind::Commitments, &COMMITMENTS, &message)
 }
 
@@ -175,8 +182,7 @@ fn answer_to_challenge_1(rt: HostRuntime) -> Result<(), Fail> {
         &POSITIONS,
         &KEY,
         &MASK,
-        3,
-        2,
+        LAYOUT,
         b"two.",
         b"tres",
     );
@@ -203,10 +209,18 @@ fn answer_to_challenge_3(rt: HostRuntime) -> Result<(), Fail> {
 #[test]
 fn one_byte_more(rt: HostRuntime) -> Result<(), Fail> {
     let mut longer = [0; 22];
-    let _ = write_commitments(&mut longer, b"one.", b"two.", b"tres")?;
+    let _ = write_commitments(&mut longer, COMMITTED)?;
     assert_eq!(rt; reading(Kind::Commitments, &longer), (84, 21));
     let mut longer = [0; 45];
-    let _ = write_first(&mut longer, &POSITIONS, &KEY, &MASK, 3, 2, b"two.", b"tres");
+    let _ = write_first(
+        &mut longer,
+        &POSITIONS,
+        &KEY,
+        &MASK,
+        LAYOUT,
+        b"two.",
+        b"tres",
+    );
     assert_eq!(rt; reading(Kind::Answer(Challenge::One), &longer), (84, 44));
     let mut longer = [0; 52];
     let _ = write_second(&mut longer, &POSITIONS, &MASK, &FREE, b"one.", b"tres");

@@ -1,13 +1,9 @@
 -- One field: what it is if nothing is wrong with it.
-use Rattle.std.proofs.Common.{◌≡◌, ℕ, ◌+◌, ◌-◌, ◌*◌, ◌/◌, ◌%◌, ◌<◌, ◌≤◌, List, [], ◌∷◌, ◌++◌, length, get_or, take, drop, None, Result, ap, ◌∙◌, subst, arith, MatchResult}
-use Rattle.std.proofs.lemmas.List.{length-drop, length-take-le, take-append-drop, take_rest, drop-drop}
-use Rattle.std.proofs.lemmas.Result.{MatchResult-weaker}
+use Rattle.std.proofs.Common.{◌≡◌, ℕ, ◌+◌, ◌*◌, ◌/◌, ◌%◌, ◌<◌, ◌≤◌, List, [], ◌∷◌, ◌++◌, length, get_or, take, drop, None, ap, ◌∙◌, arith}
+use Rattle.std.proofs.lemmas.List.{length-drop, length-take-le, take-append-drop, drop-drop}
 use Rattle.std.proofs.lemmas.Bool.Decides.{nat_tests}
-use Rattle.refusals.specs.declared.fault.Fault.{Fault}
-use Rattle.messages.specs.declared.fields.Field.{Field}
 use Rattle.messages.specs.Fields.{field}
 use Rattle.messages.specs.Reading.{Slot, stated, field_fault}
-use Rattle.messages.specs.Steps.{Taken, Wrong}
 
 module _ (slot : Slot) (bytes : List ℕ) (e : field_fault slot bytes ≡ None) where
   whole : 3 + stated bytes ≤ length bytes
@@ -47,12 +43,3 @@ right-written slot (t ∷ h ∷ b ∷ rest) e l =
 module _ (slot : Slot) (at : ℕ) (message : List ℕ) where
   pub within-message : field_fault slot (drop at message) ≡ None → at + 3 + slot.size ≤ length message
   within-message e = omega (arith, within slot (drop at message) e, length-drop at message)
-
-  -- the bytes from the offset on, as the checker reads `&message[at..]`
-  pub field_at : (r : Result Field Fault)
-      → MatchResult r (λ f. Taken slot at (take (length message - at) (drop at message)) f) (λ fault. Wrong slot at (take (length message - at) (drop at message)) fault)
-      → MatchResult r (λ f. (at + 3 + slot.size ≤ length message) × Taken slot at (drop at message) f) (λ fault. Wrong slot at (drop at message) fault)
-  field_at r h =
-      MatchResult-weaker r h
-      (λ f t. let t' = subst (λ bytes. Taken slot at bytes f) (take_rest message at) t in (within-message t'.right, t'))
-      (λ fault w. subst (λ bytes. Wrong slot at bytes fault) (take_rest message at) w)

@@ -5,6 +5,7 @@ use Rattle.messages.specs.declared.challenge.Challenge.{Challenge}
 use Rattle.messages.specs.declared.challenge.Challenge.TheVariants.{One, Two, Three}
 use Rattle.messages.specs.declared.fields.Field.{Field}
 use Rattle.messages.specs.declared.fields.Commitments.{Commitments}
+use Rattle.messages.specs.declared.fields.Triple.{Triple}
 use Rattle.messages.specs.declared.fields.Answer.{Answer}
 use Rattle.messages.specs.declared.fields.Answer.TheVariants.{First, Second, Third}
 use Rattle.messages.specs.declared.fields.Sizes.{Sizes}
@@ -46,6 +47,9 @@ asked (Third a b c d e) = Three
 abbrev pub field_contents : List Field → List (List ℕ)
 field_contents [] = []
 field_contents (f ∷ fs) = f.content.now ∷ field_contents fs
+
+abbrev pub triple_contents : Triple → List (List ℕ)
+triple_contents t = t.one.now ∷ t.two.now ∷ t.three.now ∷ []
 
 abbrev pub field_offsets : List Field → List ℕ
 field_offsets [] = []

@@ -1,5 +1,5 @@
 -- What the steps of the reader promise.
-use Rattle.std.specs.Prelude.{◌≡◌, ℕ, ◌+◌, ◌<◌, List, [], ◌∷◌, length, take, Some, None, slice_index_or}
+use Rattle.std.specs.Prelude.{◌≡◌, ℕ, ◌+◌, ◌<◌, List, [], ◌∷◌, length, take, drop, Some, None, slice_index_or}
 use Rattle.std.specs.List.{between}
 use Rattle.refusals.specs.declared.fault.Fault.{Fault}
 use Rattle.messages.specs.declared.fields.Field.{Field}
@@ -19,6 +19,12 @@ pub record Taken (slot : Slot) (at : ℕ) (bytes : List ℕ) (f : Field) : Type 
 pub record Wrong (slot : Slot) (at : ℕ) (bytes : List ℕ) (fault : Fault) : Type 0 where
   pub kind : field_fault slot bytes ≡ Some fault.kind
   pub place : fault.place ≡ at
+
+-- a reader that stood at `before` took the next field of the message, and stands behind it
+pub record Next (slot : Slot) (message : List ℕ) (before : ℕ) (message_after : List ℕ) (after : ℕ) (f : Field) : Type 0 where
+  pub taken : Taken slot before (drop before message) f
+  pub offset : after ≡ before + 3 + slot.size
+  pub same : message_after ≡ message
 
 -- the fields of an answer to challenge 2 or 3, whose tags begin with the given one
 abbrev pub long_slots : ℕ → Sizes → List Slot

@@ -1,4 +1,6 @@
 // Parts of a message, as a reader hands them out.
+ghost use Rattle.std.specs.Prelude.{◌≡◌};
+ghost use Rattle.messages.specs.Contents.{commitment_fields, field_contents, triple_contents};
 
 // A field's content, and the offset of its tag in the message.
 #[derive(Clone, Copy)]
@@ -13,6 +15,26 @@ pub struct Commitments<'a> {
     pub first: Field<'a>,
     pub second: Field<'a>,
     pub third: Field<'a>,
+}
+
+impl<'a> Commitments<'a> {
+    pub fn contents(&self) -> Triple<'a>
+        ensures { triple_contents result ≡ field_contents (commitment_fields self.now) }
+    {
+        Triple {
+            one: self.first.content,
+            two: self.second.content,
+            three: self.third.content,
+        }
+    }
+}
+
+// The contents of three commitments.
+#[derive(Clone, Copy)]
+pub struct Triple<'a> {
+    pub one: &'a [u8],
+    pub two: &'a [u8],
+    pub three: &'a [u8],
 }
 
 // The answer to a challenge; the fields borrow from the message.

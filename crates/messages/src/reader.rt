@@ -1,7 +1,7 @@
 // Reading a message field by field.
 ghost use Rattle.std.specs.Prelude.{◌≡◌, ◌+◌, ◌<◌, ◌≤◌, [], length, drop, Some, MatchResult};
 ghost use Rattle.messages.specs.Reading.{reading_fault};
-ghost use Rattle.messages.specs.Steps.{Taken, Wrong, long_slots, long_fields};
+ghost use Rattle.messages.specs.Steps.{Taken, Wrong, Next, long_slots, long_fields};
 ghost use Rattle.messages.specs.Contents.{commitment_slots, commitment_fields, answer_slots, answer_fields, asked, Handed};
 ghost use Rattle.messages.specs.declared.challenge.Challenge.TheVariants.{One};
 
@@ -13,30 +13,22 @@ use refusals::fault::{Fault, FaultKind};
 fn read_front<'a>(bytes: &'a [u8], offset: usize, tag: u8, size: usize) -> Result<Field<'a>, Fault>
     ensures { MatchResult result (λ f. Taken (record { tag = tag; size = size }) offset bytes.now f) (λ fault. Wrong (record { tag = tag; size = size }) offset bytes.now fault) }
 {
+    let fault = |kind| Err(Fault {
+        kind,
+        place: offset,
+    });
     let [found, high, low, rest @ ..] = bytes else {
-        return Err(Fault {
-            kind: FaultKind::CutOff,
-            place: offset,
-        });
+        return fault(FaultKind::CutOff);
     };
     let stated = *high as usize * 256 + *low as usize;
     if rest.len() < stated {
-        return Err(Fault {
-            kind: FaultKind::CutOff,
-            place: offset,
-        });
+        return fault(FaultKind::CutOff);
     }
     if *found != tag {
-        return Err(Fault {
-            kind: FaultKind::WrongTag,
-            place: offset,
-        });
+        return fault(FaultKind::WrongTag);
     }
     if stated != size {
-        return Err(Fault {
-            kind: FaultKind::WrongLength,
-            place: offset,
-        });
+        return fault(FaultKind::WrongLength);
     }
     Ok(Field {
         content: &rest[0..size],
@@ -44,42 +36,47 @@ fn read_front<'a>(bytes: &'a [u8], offset: usize, tag: u8, size: usize) -> Resul
     })
 }
 
-// Reads the field at an offset of the message.
-fn read_field<'a>(
+// Reads a message's fields one after another; the next one begins at the offset.
+#[derive(Drop)]
+struct FieldReader<'a> {
     message: &'a [u8],
     offset: usize,
-    tag: u8,
-    size: usize,
-) -> Result<Field<'a>, Fault>
-    requires { offset ≤ length message.now }
-    ensures { MatchResult result (λ f. (offset + 3 + size ≤ length message.now) × Taken (record { tag = tag; size = size }) offset (drop offset message.now) f) (λ fault. Wrong (record { tag = tag; size = size }) offset (drop offset message.now) fault) }
-{
-    read_front(&message[offset..], offset, tag, size)
+    ghost within: { offset ≤ length message.now },
 }
 
-// Behind the last field nothing may be left.
-fn end_at(message: &[u8], offset: usize) -> Result<(), Fault>
-    ensures { MatchResult result (λ _. length message.now ≤ offset) (λ fault. reading_fault [] offset message.now ≡ Some fault) }
-{
-    if message.len() > offset {
-        return Err(Fault {
-            kind: FaultKind::LeftOver,
-            place: offset,
-        });
+impl<'a> FieldReader<'a> {
+    // Reads the next field, which must have this tag and this length.
+    fn field(&mut self, tag: u8, size: usize) -> Result<Field<'a>, Fault>
+        ensures { MatchResult result (λ f. Next (record { tag = tag; size = size }) self.old.message.now self.old.offset self.new.message.now self.new.offset f) (λ fault. Wrong (record { tag = tag; size = size }) self.old.offset (drop self.old.offset self.old.message.now) fault) }
+    {
+        let field = read_front(&self.message[self.offset..], self.offset, tag, size)?;
+        self.offset += 3 + size;
+        Ok(field)
     }
-    Ok(())
+
+    // Behind the last field nothing may be left.
+    fn end(self) -> Result<(), Fault>
+        ensures { MatchResult result (λ _. length self.entry.message.now ≤ self.entry.offset) (λ fault. reading_fault [] self.entry.offset self.entry.message.now ≡ Some fault) }
+    {
+        if self.message.len() > self.offset {
+            return Err(Fault {
+                kind: FaultKind::LeftOver,
+                place: self.offset,
+            });
+        }
+        Ok(())
+    }
 }
 
 // Reads a commitments message.
 pub fn read_commitments<'a>(message: &'a [u8], width: usize) -> Result<Commitments<'a>, Fault>
     ensures { MatchResult result (λ c. Handed (commitment_slots width) message.now (commitment_fields c)) (λ fault. reading_fault (commitment_slots width) 0 message.now ≡ Some fault) }
 {
-    let first = read_field(message, 0, 1, width)?;
-    let second_at = 3 + width;
-    let second = read_field(message, second_at, 2, width)?;
-    let third_at = second_at + 3 + width;
-    let third = read_field(message, third_at, 3, width)?;
-    end_at(message, third_at + 3 + width)?;
+    let mut reader = FieldReader { message, offset: 0 };
+    let first = reader.field(1, width)?;
+    let second = reader.field(2, width)?;
+    let third = reader.field(3, width)?;
+    reader.end()?;
     Ok(Commitments {
         first,
         second,
@@ -91,14 +88,12 @@ pub fn read_commitments<'a>(message: &'a [u8], width: usize) -> Result<Commitmen
 fn read_first<'a>(message: &'a [u8], sizes: Sizes) -> Result<Answer<'a>, Fault>
     ensures { MatchResult result (λ a. (asked a ≡ One) × Handed (answer_slots One sizes) message.now (answer_fields a)) (λ fault. reading_fault (answer_slots One sizes) 0 message.now ≡ Some fault) }
 {
-    let permuted_key = read_field(message, 0, 11, sizes.layers)?;
-    let mask_at = 3 + sizes.layers;
-    let permuted_mask = read_field(message, mask_at, 12, sizes.layers)?;
-    let coins_2_at = mask_at + 3 + sizes.layers;
-    let coins_2 = read_field(message, coins_2_at, 13, sizes.width)?;
-    let coins_3_at = coins_2_at + 3 + sizes.width;
-    let coins_3 = read_field(message, coins_3_at, 14, sizes.width)?;
-    end_at(message, coins_3_at + 3 + sizes.width)?;
+    let mut reader = FieldReader { message, offset: 0 };
+    let permuted_key = reader.field(11, sizes.layers)?;
+    let permuted_mask = reader.field(12, sizes.layers)?;
+    let coins_2 = reader.field(13, sizes.width)?;
+    let coins_3 = reader.field(14, sizes.width)?;
+    reader.end()?;
     Ok(Answer::First {
         permuted_key,
         permuted_mask,
@@ -112,16 +107,13 @@ fn read_long<'a>(message: &'a [u8], tag: u8, sizes: Sizes) -> Result<LongAnswer<
     requires { tag + 4 < 256 }
     ensures { MatchResult result (λ a. Handed (long_slots tag sizes) message.now (long_fields a)) (λ fault. reading_fault (long_slots tag sizes) 0 message.now ≡ Some fault) }
 {
-    let permutations = read_field(message, 0, tag, sizes.layers)?;
-    let layers_at = 3 + sizes.layers;
-    let layers = read_field(message, layers_at, tag + 1, sizes.layers)?;
-    let free_at = layers_at + 3 + sizes.layers;
-    let free = read_field(message, free_at, tag + 2, sizes.free)?;
-    let lower_at = free_at + 3 + sizes.free;
-    let lower_coins = read_field(message, lower_at, tag + 3, sizes.width)?;
-    let upper_at = lower_at + 3 + sizes.width;
-    let upper_coins = read_field(message, upper_at, tag + 4, sizes.width)?;
-    end_at(message, upper_at + 3 + sizes.width)?;
+    let mut reader = FieldReader { message, offset: 0 };
+    let permutations = reader.field(tag, sizes.layers)?;
+    let layers = reader.field(tag + 1, sizes.layers)?;
+    let free = reader.field(tag + 2, sizes.free)?;
+    let lower_coins = reader.field(tag + 3, sizes.width)?;
+    let upper_coins = reader.field(tag + 4, sizes.width)?;
+    reader.end()?;
     Ok(LongAnswer {
         permutations,
         layers,

@@ -2,6 +2,7 @@
 use crate::expected::{Change, ExpectedAnswer};
 use exchange_moves::judging::judge;
 use messages::challenge::Challenge;
+use messages::fields::Triple;
 use relation::Relation;
 use schemes::hash::Hash;
 use std::alloc::{AllocError, Global};
@@ -16,19 +17,15 @@ pub fn verdict<R: Relation>(
     message: &[u8],
     work: &mut [u16],
 ) -> (u8, usize) {
-    let judged = judge(
-        relation,
-        &mut Hash::new(),
-        &commitments[3..35],
-        &commitments[38..70],
-        &commitments[73..105],
-        challenge,
-        message,
-        work,
-    );
-    match judged {
-        Ok(None) => (0, 0),
-        Ok(Some(cause)) => (cause.number(), cause.place()),
+    let commitments = Triple {
+        one: &commitments[3..35],
+        two: &commitments[38..70],
+        three: &commitments[73..105],
+    };
+    let mut scheme = Hash::new();
+    match judge(relation, &mut scheme, commitments, challenge, message, work) {
+        Ok(Ok(())) => (0, 0),
+        Ok(Err(cause)) => (cause.number(), cause.place()),
         Err(refusal) => (refusal.number(), 0),
     }
 }

@@ -5,9 +5,9 @@
 #[cfg(test)]
 mod cases;
 #[cfg(test)]
-mod expected;
+mod digits;
 #[cfg(test)]
-mod hex;
+mod expected;
 #[cfg(test)]
 mod judged;
 #[cfg(test)]

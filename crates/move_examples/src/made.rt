@@ -1,10 +1,11 @@
 // The console's side of a case: the mask, the commitments message and the answers, each held to what is expected.
+use crate::digits;
 use crate::expected::{Expected, ExpectedAnswer};
-use crate::hex;
 use crate::stream::Stream;
 use console_moves::answering::answer;
 use console_moves::committing::commit;
 use masks::draw::draw;
+use masks::mask::{Mask, MaskMut};
 use messages::challenge::Challenge;
 use refusals::refusal::Refusal;
 use relation::Relation;
@@ -35,15 +36,22 @@ impl MaskParts {
 
     // Draws the mask, and says how many bytes that took.
     fn fill<R: Relation>(&mut self, relation: &R, random: &[u8]) -> Result<usize, Refusal> {
-        draw(
-            relation,
-            &Hash::new(),
-            random,
-            &mut self.permutations,
-            &mut self.layers,
-            &mut self.free,
-            &mut self.coins,
-        )
+        let mut places = MaskMut {
+            permutations: &mut self.permutations,
+            layers: &mut self.layers,
+            free: &mut self.free,
+            coins: &mut self.coins,
+        };
+        draw(relation, &Hash::new(), random, &mut places)
+    }
+
+    fn as_mask(&self) -> Mask<'_> {
+        Mask {
+            permutations: &self.permutations,
+            layers: &self.layers,
+            free: &self.free,
+            coins: &self.coins,
+        }
     }
 }
 
@@ -90,16 +98,13 @@ pub fn committed<R: Relation>(
         relation,
         &mut Hash::new(),
         key,
-        &parts.permutations,
-        &parts.layers,
-        &parts.free,
-        &parts.coins,
+        parts.as_mask(),
         &mut work,
         &mut message,
     )?;
     assert_eq!(rt; length, 105);
     let text = expected.commitments;
-    assert_eq!(rt; message, hex::bytes::<105>(text));
+    assert_eq!(rt; message, digits::bytes::<105>(text));
     assert!(rt; is_zeros(&work));
     Ok(message)
 }
@@ -120,17 +125,14 @@ pub fn answered<R: Relation>(
         relation,
         &Hash::new(),
         key,
-        &parts.permutations,
-        &parts.layers,
-        &parts.free,
-        &parts.coins,
+        parts.as_mask(),
         challenge.number(),
         work,
         &mut message,
     )?;
     assert_eq!(rt; length, expected.length);
     let text = expected.digest;
-    assert_eq!(rt; digest(&message)?, hex::bytes::<32>(text));
+    assert_eq!(rt; digest(&message)?, digits::bytes::<32>(text));
     assert!(rt; is_zeros(work));
     Ok(message)
 }

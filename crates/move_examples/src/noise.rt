@@ -1,6 +1,6 @@
 // Noise statements.
 use crate::cases::{SMALL_NOISE, SQUARE_NOISE, WIDE_NOISE};
-use crate::hex;
+use crate::digits;
 use crate::running::check_case;
 use crate::stream::Stream;
 use noise_statement::noise::Noise;
@@ -9,8 +9,7 @@ use std::test::Fail;
 
 #[test]
 fn small(rt: HostRuntime) -> Result<(), Fail> {
-    let mut noise = Noise::smallest();
-    noise.set(Given {
+    let noise = Noise::new(Given {
         modulus: 2,
         rows: 4,
         columns: 2,
@@ -28,9 +27,8 @@ fn square(rt: HostRuntime) -> Result<(), Fail> {
     let matrix = stream.residues(rt.alloc(), 16384, 2)?;
     let key = stream.bits::<128>();
     let text = SQUARE_NOISE.target;
-    let target = hex::residues::<128>(text);
-    let mut noise = Noise::smallest();
-    noise.set(Given {
+    let target = digits::residues::<128>(text);
+    let noise = Noise::new(Given {
         modulus: 2,
         rows: 128,
         columns: 128,
@@ -48,9 +46,8 @@ fn wide(rt: HostRuntime) -> Result<(), Fail> {
     let matrix = stream.residues(rt.alloc(), 16384, 2)?;
     let key = stream.bits::<256>();
     let text = WIDE_NOISE.target;
-    let target = hex::residues::<64>(text);
-    let mut noise = Noise::smallest();
-    noise.set(Given {
+    let target = digits::residues::<64>(text);
+    let noise = Noise::new(Given {
         modulus: 2,
         rows: 64,
         columns: 256,

@@ -1,6 +1,6 @@
 // Short statements.
 use crate::cases::{LARGE_SHORT, SMALL_SHORT};
-use crate::hex;
+use crate::digits;
 use crate::running::check_case;
 use crate::stream::Stream;
 use short_statement::short::Short;
@@ -9,8 +9,7 @@ use std::test::Fail;
 
 #[test]
 fn small(rt: HostRuntime) -> Result<(), Fail> {
-    let mut short = Short::smallest();
-    short.set(Given {
+    let short = Short::new(Given {
         modulus: 11,
         rows: 1,
         columns: 2,
@@ -31,9 +30,8 @@ fn large(rt: HostRuntime) -> Result<(), Fail> {
     key[0] = 32767;
     key[1] = -32767;
     let text = LARGE_SHORT.target;
-    let target = hex::residues::<64>(text);
-    let mut short = Short::smallest();
-    short.set(Given {
+    let target = digits::residues::<64>(text);
+    let short = Short::new(Given {
         modulus: 65535,
         rows: 64,
         columns: 256,

@@ -1,7 +1,7 @@
 // Strangers at the small weight statement: who holds no key can be ready for two of the three challenges, and gets a no to the third.
 use crate::cases::{WRONG_IMAGE, WRONG_MASK, WRONG_SHAPE};
+use crate::digits;
 use crate::expected::Stranger;
-use crate::hex;
 use crate::judged::verdict;
 use messages::challenge::Challenge;
 use statements::given::Given;
@@ -10,8 +10,7 @@ use std::test::Fail;
 use weight_statement::weight::Weight;
 
 fn check_stranger(rt: &impl Abort, stranger: &Stranger) -> Result<(), Fail> {
-    let mut weight = Weight::smallest();
-    weight.set(Given {
+    let weight = Weight::new(Given {
         modulus: 5,
         rows: 1,
         columns: 4,
@@ -20,22 +19,22 @@ fn check_stranger(rt: &impl Abort, stranger: &Stranger) -> Result<(), Fail> {
         target: &[0],
     })?;
     let text = stranger.commitments;
-    let commitments = hex::bytes::<105>(text);
+    let commitments = digits::bytes::<105>(text);
     let mut work = [0; 4];
     let text = stranger.first;
-    let message = hex::bytes::<92>(text);
+    let message = digits::bytes::<92>(text);
     assert_eq!(rt;
         verdict(&weight, &commitments, Challenge::One, &message, &mut work),
         stranger.first_verdict
     );
     let text = stranger.second;
-    let message = hex::bytes::<95>(text);
+    let message = digits::bytes::<95>(text);
     assert_eq!(rt;
         verdict(&weight, &commitments, Challenge::Two, &message, &mut work),
         stranger.second_verdict
     );
     let text = stranger.third;
-    let message = hex::bytes::<95>(text);
+    let message = digits::bytes::<95>(text);
     assert_eq!(rt;
         verdict(&weight, &commitments, Challenge::Three, &message, &mut work),
         stranger.third_verdict

@@ -1,6 +1,6 @@
 // Weight statements.
 use crate::cases::{LARGE_WEIGHT, SMALL_WEIGHT};
-use crate::hex;
+use crate::digits;
 use crate::running::check_case;
 use crate::stream::Stream;
 use statements::given::Given;
@@ -9,8 +9,7 @@ use weight_statement::weight::Weight;
 
 #[test]
 fn small(rt: HostRuntime) -> Result<(), Fail> {
-    let mut weight = Weight::smallest();
-    weight.set(Given {
+    let weight = Weight::new(Given {
         modulus: 5,
         rows: 1,
         columns: 4,
@@ -35,9 +34,8 @@ fn large(rt: HostRuntime) -> Result<(), Fail> {
     let matrix = stream.residues(rt.alloc(), 16384, 65535)?;
     let key = stream.bits::<256>();
     let text = LARGE_WEIGHT.target;
-    let target = hex::residues::<64>(text);
-    let mut weight = Weight::smallest();
-    weight.set(Given {
+    let target = digits::residues::<64>(text);
+    let weight = Weight::new(Given {
         modulus: 65535,
         rows: 64,
         columns: 256,

@@ -2,18 +2,18 @@
 use Rattle.std.proofs.Common.{◌≡◌, ℕ, zero, suc, ◌+◌, ◌-◌, ◌*◌, List, [], ◌∷◌, length, take, drop, refl, ap, ◌∙◌, arith}
 use Rattle.vectors.specs.Words.{words}
 use Rattle.vectors.proofs.Words.{length_bytes, length-words}
-use Rattle.commitment.specs.declared.part.Part.{Part}
-use Rattle.commitment.specs.declared.part.Part.TheVariants.{Bytes, Words}
-use Rattle.commitment.specs.Messages.{content}
+use Rattle.vectors.specs.declared.part.Part.{Part}
+use Rattle.vectors.specs.declared.part.Part.TheVariants.{Bytes, Words}
+use Rattle.vectors.specs.Parts.{content}
 use Rattle.openings.specs.Shown.{numbers_in}
 
-words-drop : (k : ℕ) (bs : List ℕ) → words (drop (2 * k) bs) ≡ drop k (words bs)
+pub words-drop : (k : ℕ) (bs : List ℕ) → words (drop (2 * k) bs) ≡ drop k (words bs)
 words-drop zero bs = refl
 words-drop (suc k) [] = let e : 2 * suc k ≡ suc (2 * k + 1) = omega arith in ap (λ n. words (drop n [])) e
 words-drop (suc k) (x ∷ []) = let e : 2 * suc k ≡ suc (suc (2 * k)) = omega arith in ap (λ n. words (drop n (x ∷ []))) e
 words-drop (suc k) (x ∷ y ∷ bs) = let e : 2 * suc k ≡ suc (suc (2 * k)) = omega arith in ap (λ n. words (drop n (x ∷ y ∷ bs))) e ∙ words-drop k bs
 
-words_take : (k : ℕ) (bs : List ℕ) → words (take (2 * k) bs) ≡ take k (words bs)
+pub words_take : (k : ℕ) (bs : List ℕ) → words (take (2 * k) bs) ≡ take k (words bs)
 words_take zero bs = refl
 words_take (suc k) [] = let e : 2 * suc k ≡ suc (2 * k + 1) = omega arith in ap (λ n. words (take n [])) e
 words_take (suc k) (x ∷ []) = let e : 2 * suc k ≡ suc (suc (2 * k)) = omega arith in ap (λ n. words (take n (x ∷ []))) e

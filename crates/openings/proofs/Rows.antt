@@ -1,6 +1,6 @@
 -- Layers that are moved and fed one by one.
-use Rattle.std.proofs.Common.{◌≡◌, ℕ, ◌+◌, ◌*◌, ◌<◌, ◌≤◌, List, ◌++◌, length, take, sym, refl, ap, ◌∙◌, subst, ap₂, mul-le-mul_right, zero-mul, arith, take-add}
-use Rattle.std.proofs.lemmas.List.{append-nil, append_assoc, length-append, take_all, length-take-le}
+use Rattle.std.proofs.Common.{◌≡◌, ℕ, ◌+◌, ◌*◌, ◌<◌, ◌≤◌, List, ◌++◌, length, take, sym, refl, ap, ◌∙◌, subst, mul-le-mul_right, zero-mul, arith, take-add}
+use Rattle.std.proofs.lemmas.List.{append_assoc, length-append, take_all, length-take-le}
 use Rattle.vectors.specs.Words.{bytes}
 use Rattle.vectors.specs.Permutations.{permuted}
 use Rattle.vectors.specs.Layers.{layer, permuted_layers}
@@ -8,9 +8,6 @@ use Rattle.vectors.proofs.Words.{length_bytes, bytes-append}
 use Rattle.vectors.proofs.Layers.{row_within}
 use Rattle.vectors.proofs.Actions.{length-permuted_layers, layer-permuted_layers}
 use Rattle.commitment.specs.Meaning.{SchemeState, Fed}
-
-pub one-layer : (n : ℕ) (ps zs : List ℕ) → length ps ≡ n → length zs ≡ n → permuted_layers n 1 ps zs ≡ permuted ps zs
-one-layer n ps zs e d = append-nil (permuted (take n ps) (take n zs)) ∙ ap₂ permuted (take_all n ps (omega arith)) (take_all n zs (omega arith))
 
 fed-fed : (a b c : SchemeState) (xs ys : List ℕ) → Fed a xs b → Fed b ys c → Fed a (xs ++ ys) c
 fed-fed a b c xs ys f g = record {

@@ -1,19 +1,20 @@
 // Commitments to layers that are moved by permutations.
-ghost use Rattle.std.specs.Prelude.{◌≡◌, ◌+◌, ◌*◌, ◌≤◌, true, length, take, drop, MatchResult};
+ghost use Rattle.std.specs.Prelude.{◌≡◌, ◌+◌, ◌*◌, ◌≤◌, true, length, take, drop};
 ghost use Rattle.vectors.specs.Words.{bytes};
 ghost use Rattle.vectors.specs.Residues.{below};
 ghost use Rattle.vectors.specs.Layers.{permuted_layers};
+ghost use Rattle.vectors.specs.Parts.{content};
 ghost use Rattle.vectors.specs.Permutations.{permuted};
 ghost use Rattle.commitment.specs.Meaning.{Fresh, Fed};
-ghost use Rattle.commitment.specs.Messages.{content};
 ghost use Rattle.openings.specs.Shown.{numbers_in};
 
-use crate::decoding::read_words;
 use commitment::message::feed_words;
-use commitment::part::Part;
 use commitment::scheme::Scheme;
-use refusals::refusal::Refusal;
-use vectors::permuting::permute_layers;
+use std::ops::Range;
+use vectors::encoding::read_words;
+use vectors::layout::Layout;
+use vectors::part::Part;
+use vectors::permuting::permute;
 use vectors::zeroing::ZeroOnDrop;
 
 // Commits to the layers, each moved by its own permutation. The permutations are given as numbers or as bytes.
@@ -22,56 +23,59 @@ pub fn commit_rearranged<S: Scheme>(
     coins: &[u8],
     permutations: Part,
     layers: &[u16],
-    layer_len: usize,
-    layer_count: usize,
+    layout: Layout,
     out: &mut [u8],
-) -> Result<(), Refusal>
-    requires whole { (length (content permutations) ≡ 2 * (layer_count * layer_len)) × ((length layers.now ≡ layer_count * layer_len) × ((below layer_len (numbers_in permutations) ≡ true) × (layer_len ≤ 768))) }
-    requires widths { (length coins.now ≡ (S.Scheme.meaning scheme.old).width) × ((length out.old ≡ (S.Scheme.meaning scheme.old).width) × (2 * (layer_count * layer_len) ≤ (S.Scheme.meaning scheme.old).limit)) }
-    ensures outcome { MatchResult result (λ _. (out.new ≡ (S.Scheme.meaning scheme.old).value coins.now (bytes (permuted_layers layer_len layer_count (numbers_in permutations.entry) layers.now))) × Fresh (S.Scheme.meaning scheme.old) (S.Scheme.state scheme.new)) (λ _. ⊥) }
+)
+    requires permutations { length (content permutations) ≡ 2 * (layout.layer_count * layout.layer_len) }
+    requires positions { below layout.layer_len (numbers_in permutations) ≡ true }
+    requires layers { length layers.now ≡ layout.layer_count * layout.layer_len }
+    requires layer_len { layout.layer_len ≤ 768 }
+    requires coins { length coins.now ≡ (S.Scheme.meaning scheme.old).width }
+    requires out { length out.old ≡ (S.Scheme.meaning scheme.old).width }
+    requires limit { 2 * (layout.layer_count * layout.layer_len) ≤ (S.Scheme.meaning scheme.old).limit }
+    ensures value { out.new ≡ (S.Scheme.meaning scheme.old).value coins.now (bytes (permuted_layers layout.layer_len layout.layer_count (numbers_in permutations.entry) layers.now)) }
+    ensures fresh { Fresh (S.Scheme.meaning scheme.old) (S.Scheme.state scheme.new) }
     ensures kept { S.Scheme.meaning scheme.new ≡ S.Scheme.meaning scheme.old }
 {
-    scheme.start(coins)?;
-    feed_rearranged(scheme, permutations, layers, layer_len, layer_count)?;
-    scheme.finish(out)?;
-    Ok(())
+    scheme.start(coins).unwrap();
+    feed_rearranged(scheme, permutations, layers, layout);
+    scheme.finish(out).unwrap();
 }
 
-fn feed_rearranged<S: Scheme>(
-    scheme: &mut S,
-    permutations: Part,
-    layers: &[u16],
-    layer_len: usize,
-    layer_count: usize,
-) -> Result<(), Refusal>
-    requires whole { (length (content permutations) ≡ 2 * (layer_count * layer_len)) × ((length layers.now ≡ layer_count * layer_len) × ((below layer_len (numbers_in permutations) ≡ true) × (layer_len ≤ 768))) }
-    requires room { 2 * (layer_count * layer_len) ≤ (S.Scheme.state scheme.old).room }
-    ensures outcome { MatchResult result (λ _. Fed (S.Scheme.state scheme.old) (bytes (permuted_layers layer_len layer_count (numbers_in permutations.entry) layers.now)) (S.Scheme.state scheme.new)) (λ _. ⊥) }
+fn feed_rearranged<S: Scheme>(scheme: &mut S, permutations: Part, layers: &[u16], layout: Layout)
+    requires permutations { length (content permutations) ≡ 2 * (layout.layer_count * layout.layer_len) }
+    requires positions { below layout.layer_len (numbers_in permutations) ≡ true }
+    requires layers { length layers.now ≡ layout.layer_count * layout.layer_len }
+    requires layer_len { layout.layer_len ≤ 768 }
+    requires room { 2 * (layout.layer_count * layout.layer_len) ≤ (S.Scheme.state scheme.old).room }
+    ensures fed { Fed (S.Scheme.state scheme.old) (bytes (permuted_layers layout.layer_len layout.layer_count (numbers_in permutations.entry) layers.now)) (S.Scheme.state scheme.new) }
     ensures kept { S.Scheme.meaning scheme.new ≡ S.Scheme.meaning scheme.old }
 {
     let mut buffer = [0u16; 768];
     let guard = ZeroOnDrop { area: &mut buffer };
-    let positions = &mut guard.area[0..layer_len];
-    for j in 0..layer_count {
-        let from = j * layer_len;
-        read_numbers(permutations, from, positions);
-        feed_layer(scheme, positions, &layers[from..from + layer_len])?;
+    let positions = &mut guard.area[0..layout.layer_len];
+    // by the layer's number: its places in the layers and in the part follow from it; `chunks_exact` refuses empty layers
+    for j in 0..layout.layer_count {
+        let Range { start, end } = layout.places(j);
+        read_numbers(permutations, start, positions);
+        feed_layer(scheme, positions, &layers[start..end]);
     }
-    Ok(())
 }
 
 // Feeds one layer, moved by its permutation.
-fn feed_layer<S: Scheme>(scheme: &mut S, positions: &[u16], layer: &[u16]) -> Result<(), Refusal>
-    requires { (length positions.now ≡ length layer.now) × ((below (length layer.now) positions.now ≡ true) × ((length layer.now ≤ 768) × (2 * length layer.now ≤ (S.Scheme.state scheme.old).room))) }
-    ensures outcome { MatchResult result (λ _. Fed (S.Scheme.state scheme.old) (bytes (permuted positions.now layer.now)) (S.Scheme.state scheme.new)) (λ _. ⊥) }
+fn feed_layer<S: Scheme>(scheme: &mut S, positions: &[u16], layer: &[u16])
+    requires positions { length positions.now ≡ length layer.now }
+    requires within { below (length layer.now) positions.now ≡ true }
+    requires layer { length layer.now ≤ 768 }
+    requires room { 2 * length layer.now ≤ (S.Scheme.state scheme.old).room }
+    ensures fed { Fed (S.Scheme.state scheme.old) (bytes (permuted positions.now layer.now)) (S.Scheme.state scheme.new) }
     ensures kept { S.Scheme.meaning scheme.new ≡ S.Scheme.meaning scheme.old }
 {
     let mut buffer = [0u16; 768];
     let guard = ZeroOnDrop { area: &mut buffer };
     let moved = &mut guard.area[0..layer.len()];
-    permute_layers(positions, layer, layer.len(), 1, moved);
-    feed_words(scheme, moved)?;
-    Ok(())
+    permute(positions, layer, moved);
+    feed_words(scheme, moved).unwrap();
 }
 
 // Fills `out` with the numbers of a part, from number `from` on.

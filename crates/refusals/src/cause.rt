@@ -4,6 +4,7 @@ ghost use Rattle.refusals.specs.Numbers.{cause_number, place as place_of};
 ghost use Rattle.refusals.specs.declared.cause.Cause.TheVariants.{Reader};
 
 use crate::fault::Fault;
+use std::error::Error;
 use std::fmt;
 
 // A no carries its cause: a fault of the reader as the reader gave it, or the first check that fails.
@@ -13,7 +14,7 @@ pub enum Cause {
     ResidueNotBelowModulus { offset: usize },
     NoPermutation { layer: usize },
     ShapeMissing { layer: usize },
-    // by the commitment's number, 1 to 3
+    // by the commitment's number, 1 to 3: the place that is told with the number of this cause
     NotOpened { commitment: usize },
 }
 
@@ -71,3 +72,5 @@ impl fmt::Display for Cause {
         }
     }
 }
+
+impl Error for Cause {}

@@ -2,6 +2,7 @@
 ghost use Rattle.std.specs.Prelude.{◌≡◌};
 ghost use Rattle.refusals.specs.Numbers.{fault_number};
 
+use std::error::Error;
 use std::fmt;
 
 // How a field of a message departs from the format.
@@ -50,9 +51,10 @@ impl fmt::Display for FaultKind {
 
 impl fmt::Display for Fault {
     fn fmt<W: fmt::Write>(&self, f: &mut fmt::Formatter<W>) -> fmt::Result {
-        let number = self.kind.number();
-        let kind = self.kind;
-        let place = self.place;
+        let Fault { kind, place } = *self;
+        let number = kind.number();
         write!(f, "{number}: {kind}, at byte {place}")
     }
 }
+
+impl Error for Fault {}

@@ -4,6 +4,7 @@ ghost use Rattle.refusals.specs.Numbers.{number};
 ghost use Rattle.refusals.specs.declared.refusal.Refusal.TheVariants.{Unreadable};
 
 use crate::fault::Fault;
+use std::error::Error;
 use std::fmt;
 
 // A call that refuses names one of these; docs/SPECIFICATION.md has the condition of each.
@@ -173,3 +174,5 @@ impl fmt::Display for Refusal {
         write!(f, "{number}: {words}")
     }
 }
+
+impl Error for Refusal {}

@@ -8,9 +8,12 @@ ghost use Rattle.relation.specs.Laws.{RelationLaws};
 ghost use Rattle.relation.specs.Faults.{shape_fault, image_fault, target_fault, split_fault, gather_fault};
 
 use refusals::refusal::Refusal;
+use vectors::layout::Layout;
 
 // A relation is one kind of statement with its keys (instance and witness). It splits a key into layers, whose entries may be
 // shown in a rearranged order, and a free part. No call changes what it means; a refused call writes nothing.
+// Calls take a relation and a scheme as two parameters: the relation is only read and the scheme is often changed, so that a struct of
+// both would be made anew for each call.
 pub trait Relation {
     // an entry of a key
     type Entry: Copy;
@@ -31,6 +34,16 @@ pub trait Relation {
 
     fn layer_len(&self) -> usize
         ensures { result ≡ (meaning self.now).layer_len };
+
+    // The layers, one after another.
+    fn layout(&self) -> Layout
+        ensures { result ≡ record { layer_count = (meaning self.now).layer_count; layer_len = (meaning self.now).layer_len } }
+    {
+        Layout {
+            layer_count: self.layer_count(),
+            layer_len: self.layer_len(),
+        }
+    }
 
     fn free_len(&self) -> usize
         ensures { result ≡ (meaning self.now).free_len };

@@ -25,10 +25,8 @@ fn started(coins: &[u8]) -> Hash
     ensures { Started hash coins.now (hash_state result.hasher) }
 {
     let mut hasher = Sha256::new();
-    match hasher.update(coins) {
-        Ok(()) => Hash { hasher },
-        Err(_) => unreachable(),
-    }
+    hasher.update(coins).unwrap();
+    Hash { hasher }
 }
 
 impl Hash {
@@ -70,10 +68,8 @@ impl Scheme for Hash {
         if bytes.len() > self.room() {
             return Err(Refusal::MessageLimit);
         }
-        match self.hasher.update(bytes) {
-            Ok(()) => Ok(()),
-            Err(_) => unreachable(),
-        }
+        self.hasher.update(bytes).unwrap();
+        Ok(())
     }
 
     fn finish(&mut self, out: &mut [u8]) -> Result<(), Refusal> {

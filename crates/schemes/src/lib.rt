@@ -2,5 +2,4 @@
 #![tactic(auto)]
 
 pub mod hash;
-pub mod label;
 pub mod labelled;

@@ -1,8 +1,15 @@
--- Ch and Maj by fewer operations than their definitions have.
-use Rattle.std.proofs.Common.{◌≡◌, ℕ, zero, suc, ◌-◌, ◌/◌, ◌%◌, ◌^◌, ◌<◌, sym, refl, ◌∙◌, arith}
+-- Rotations, and Ch and Maj by fewer operations than their definitions have.
+use Rattle.std.proofs.Common.{◌≡◌, ℕ, zero, suc, ◌-◌, ◌/◌, ◌%◌, ◌^◌, ◌<◌, sym, refl, ◌∙◌, w32, arith}
 use native.Mathlib.Nat.{two-pow-succ}
+use Rattle.std.specs.Int.{rotate_right}
 use lib.Bits.{bit_and, bit_xor, and_shr, and_mod, xor_shr, xor_mod}
-use Rattle.sha256.specs.Words.{ch, maj}
+use Rattle.sha256.specs.Words.{rotr, ch, maj}
+
+pub rotated : (x n : ℕ) → 0 < n → n < 32 → rotate_right w32 x n ≡ rotr n x
+rotated x n h l =
+    let e : n % 32 ≡ n = omega arith in
+    let f : (32 - n) % 32 ≡ 32 - n = omega arith in
+    simp (e, f)
 
 and_half : (a b : ℕ) → bit_and a b / 2 ≡ bit_and (a / 2) (b / 2)
 and_half a b = and_shr a b 1

@@ -1,12 +1,12 @@
 -- The hash value after blocks, and after bytes of which some are held.
-use Rattle.std.proofs.Common.{◌≡◌, ℕ, zero, suc, ◌+◌, ◌-◌, ◌*◌, ◌/◌, ◌%◌, ◌<◌, ◌≤◌, min, List, [], ◌++◌, length, take, drop, sym, refl, ap, ◌∙◌, arith}
-use native.Mathlib.Nat.{sub-zero}
+use Rattle.std.proofs.Common.{◌≡◌, ℕ, zero, suc, ◌+◌, ◌-◌, ◌*◌, ◌/◌, ◌%◌, ◌<◌, ◌≤◌, fold, min, List, [], ◌++◌, length, take, drop, sym, refl, ap, ◌∙◌, arith}
 use borrow.Rule.Slice.PartMut.{put_mid}
-use Rattle.std.proofs.lemmas.List.{append_assoc, length-append, length-take, length-drop, take_all, take_at, take-append-drop, take_rest, drop_at, drop-drop, nil_from_length}
+use Rattle.std.proofs.lemmas.List.{append_assoc, length-append, length-take, length-drop, take_all, take_at, take-append-drop, drop_at, drop-drop, nil_from_length}
+use Rattle.std.specs.Simd.{first_chunks}
 use Rattle.std.proofs.lemmas.Slice.{take-put_mid}
 use Rattle.sha256.specs.Block.{compressed}
 use Rattle.sha256.specs.Hash.{after_blocks, chained}
-use Rattle.sha256.specs.State.{hash_after}
+use Rattle.sha256.specs.State.{hash_after, Absorbed}
 use Rattle.sha256.specs.declared.state.Blocks.{Blocks}
 
 pub chained_block : (hash block rest : List ℕ) → length block ≡ 64 → chained hash (block ++ rest) ≡ chained (compressed hash block) rest
@@ -23,17 +23,15 @@ chained-short hash bytes h =
     let n : length bytes / 64 ≡ 0 = omega arith in
     ap (λ k. after_blocks k hash bytes) n
 
--- one more block, at i
-pub chained_more : (hash next bytes : List ℕ) (i : ℕ) → i + 64 ≤ length bytes → next ≡ compressed hash (take (i + 64 - i) (drop i bytes)) →
-    chained next (drop (i + 64) bytes) ≡ chained hash (drop i bytes)
-chained_more hash next bytes i le p =
-    let block : List ℕ = take 64 (drop i bytes) in
-    let k : i + 64 - i ≡ 64 = omega arith in
-    let l : length block ≡ 64 = simp (length-take, length-drop) (omega arith) in
-    ap (λ x. chained x (drop (i + 64) bytes)) (p ∙ ap (λ n. compressed hash (take n (drop i bytes))) k)
-    ∙ sym (chained_block hash block (drop (i + 64) bytes) l)
-    ∙ ap (λ x. chained hash (block ++ x)) (sym (drop-drop 64 i bytes))
-    ∙ ap (chained hash) (take-append-drop 64 (drop i bytes))
+-- the blocks one after another, as a slice is cut into them
+pub after_blocks_is : (n : ℕ) (hash bytes : List ℕ) → fold compressed hash (first_chunks 64 n bytes) ≡ after_blocks n hash bytes
+unfolding after_blocks
+after_blocks_is zero hash bytes = refl
+after_blocks_is (suc n) hash bytes = after_blocks_is n (compressed hash (take 64 bytes)) (drop 64 bytes)
+
+pub chained_blocks : (hash bytes : List ℕ) → fold compressed hash (first_chunks 64 (length bytes / 64) bytes) ≡ chained hash bytes
+unfolding chained
+chained_blocks hash bytes = after_blocks_is (length bytes / 64) hash bytes
 
 -- bytes that are written after the first filled ones of those that are held
 module _ (held bytes written : List ℕ) (filled : ℕ) (fits : filled + length bytes ≤ length held) (is : written ≡ bytes) where
@@ -98,42 +96,31 @@ blocks_on hash held bytes m (suc n) e =
     ∙ ap (λ x. chained x (take (suc n) held ++ m)) (chained-short hash [] (omega arith))
     ∙ ap (λ x. chained hash (take (suc n) held ++ (x ++ m))) (sym none)
 
--- the bytes from k on, as `&bytes[k..]` is read
-abbrev onward : ℕ → List ℕ → List ℕ
-onward k bytes = take (length bytes - k) (drop k bytes)
-
-abbrev wholes : List ℕ → ℕ
-wholes bytes = length bytes / 64 * 64
-
 -- bytes that fill the block that is held, then whole blocks, then the rest
-module _ (s t u : Blocks) (bytes hash : List ℕ) (head : ℕ) (full : head ≡ min (length bytes) ((64 - s.filled) % 64))
-    (filled_t : t.filled ≡ (s.filled + length (take (head - 0) bytes)) % 64) where
-  head-length : length (take (head - 0) bytes) ≡ head
-  head-length = simp length-take (omega arith)
+module _ (s t u : Blocks) (bytes front back tail hash : List ℕ) (n : ℕ) (full : n ≡ min (length bytes) ((64 - s.filled) % 64))
+    (front_is : front ≡ take n bytes) (back_is : back ≡ drop n bytes) (tail_is : tail ≡ drop (length back / 64 * 64) back) where
+  front-length : length front ≡ n
+  front-length = ap length front_is ∙ simp length-take (omega arith)
 
-  rest-length : length (onward head bytes) ≡ length bytes - head
-  rest-length = simp (length-take, length-drop) (omega arith)
+  back-length : length back ≡ length bytes - n
+  back-length = ap length back_is ∙ simp length-drop (omega arith)
 
-  pub absorb_hash : ((m : List ℕ) → hash_after t m ≡ hash_after s (take (head - 0) bytes ++ m)) →
-      hash ≡ chained t.hash (onward head bytes) →
-      ((m : List ℕ) → hash_after u m
-      ≡ chained hash (take t.filled t.held ++ (onward (wholes (onward head bytes)) (onward head bytes) ++ m))) →
-      (m : List ℕ) → hash_after u m ≡ hash_after s (bytes ++ m)
-  absorb_hash step_t is_hash step_u m =
-      let rest : List ℕ = onward head bytes in
-      let z : 0 < t.filled → length rest ≡ 0 = λ h. omega (arith, head-length, rest-length, s.sizes.2) in
-      step_u m
-      ∙ ap (λ x. chained x (take t.filled t.held ++ (onward (wholes rest) rest ++ m))) is_hash
-      ∙ ap (λ x. chained (chained t.hash rest) (take t.filled t.held ++ (x ++ m))) (take_rest rest (wholes rest))
-      ∙ blocks_on t.hash t.held rest m t.filled z
-      ∙ step_t (rest ++ m)
-      ∙ ap (λ x. hash_after s (take (head - 0) bytes ++ (x ++ m))) (take_rest bytes head)
-      ∙ ap (λ k. hash_after s (take k bytes ++ (drop head bytes ++ m))) (sub-zero head)
-      ∙ ap (hash_after s) (sym (append_assoc (take head bytes) (drop head bytes) m) ∙ ap (λ x. x ++ m) (take-append-drop head bytes))
+  whole : front ++ back ≡ bytes
+  whole = ap (λ x. x ++ back) front_is ∙ ap (λ x. take n bytes ++ x) back_is ∙ take-append-drop n bytes
 
-  pub absorb_filled : u.filled ≡ (t.filled + length (onward (wholes (onward head bytes)) (onward head bytes))) % 64 →
-      u.filled ≡ (s.filled + length bytes) % 64
-  absorb_filled filled_u =
-      let rest : List ℕ = onward head bytes in
-      let l : length (onward (wholes rest) rest) ≡ length rest % 64 = simp (length-take, length-drop) (omega (arith, rest-length)) in
-      omega (arith, head-length, rest-length, s.sizes.2)
+  module _ (step_t : Absorbed s front t) (is_hash : hash ≡ chained t.hash back) (hash_u : (m : List ℕ) → hash_after u m ≡ chained hash (take t.filled t.held ++ (tail ++ m)))
+      (filled_u : u.filled ≡ (t.filled + length tail) % 64) where
+    pub absorbed : Absorbed s bytes u
+    absorbed =
+        let z : 0 < t.filled → length back ≡ 0 = λ h. omega (arith, front-length, back-length, step_t.filled, s.sizes.2) in
+        let l : length tail ≡ length back % 64 = ap length tail_is ∙ simp length-drop (omega arith) in
+        record {
+          hash = λ m.
+              hash_u m
+              ∙ ap (λ x. chained x (take t.filled t.held ++ (tail ++ m))) is_hash
+              ∙ ap (λ x. chained (chained t.hash back) (take t.filled t.held ++ (x ++ m))) tail_is
+              ∙ blocks_on t.hash t.held back m t.filled z
+              ∙ step_t.hash (back ++ m)
+              ∙ ap (hash_after s) (sym (append_assoc front back m) ∙ ap (λ x. x ++ m) whole);
+          filled = omega (arith, front-length, back-length, step_t.filled, s.sizes.2);
+        }

@@ -2,6 +2,7 @@ mod BigEndian
 mod Bitwise
 mod Chains
 pub mod Digests
+mod Made
 mod Paddings
 mod Rounds
 mod Windows

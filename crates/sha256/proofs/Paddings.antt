@@ -1,6 +1,5 @@
 -- The padding, as it is made in an array.
 use Rattle.std.proofs.Common.{◌≡◌, ℕ, ◌+◌, ◌-◌, ◌*◌, ◌≤◌, List, ◌∷◌, ◌++◌, length, take, replicate, refl, ap, ◌∙◌, add-one, arith}
-use native.Mathlib.Nat.{sub-zero}
 use borrow.Rule.Slice.PartMut.{put_mid}
 use Rattle.std.proofs.lemmas.List.{length-append, length-replicate, take-replicate}
 use Rattle.std.proofs.lemmas.Slice.{take-put_mid}
@@ -24,7 +23,7 @@ first-bytes z h = ap (λ k. take k one_bit) (add-one z) ∙ ap (λ l. 128 ∷ l)
 
 -- the bytes that are absorbed, where `written` has replaced those from z + 1 to z + 9
 abbrev made : ℕ → List ℕ → List ℕ → List ℕ
-made z start written = take (z + 9 - 0) (put_mid (z + 1) (z + 9 - (z + 1)) start written)
+made z start written = take (z + 9) (put_mid (z + 1) (z + 9 - (z + 1)) start written)
 
 module _ (n z : ℕ) (start written : List ℕ) (z_is : z ≡ zeros n) (start_is : start ≡ one_bit) (written_is : written ≡ length_bytes (8 * n)) where
   pub made_is : made z start written ≡ padding n
@@ -32,8 +31,7 @@ module _ (n z : ℕ) (start written : List ℕ) (z_is : z ≡ zeros n) (start_is
   made_is =
       let l : length written ≡ 8 = ap length written_is ∙ length-length_bytes (8 * n) in
       let r : length start ≡ 72 = ap length start_is in
-      ap (λ k. take k (put_mid (z + 1) (z + 9 - (z + 1)) start written)) (sub-zero (z + 9))
-      ∙ take-put_mid (z + 1) (z + 9 - (z + 1)) start written (z + 9) (omega arith) (omega arith)
+      take-put_mid (z + 1) (z + 9 - (z + 1)) start written (z + 9) (omega arith) (omega arith)
       ∙ ap (λ x. take (z + 1) x ++ written) start_is
       ∙ ap (λ x. x ++ written) (first-bytes z (omega arith))
       ∙ ap (λ x. 128 ∷ (replicate z 0 ++ x)) written_is

@@ -1,10 +1,11 @@
 -- The rounds, one by one and sixteen at a time.
-use Rattle.std.proofs.Common.{◌≡◌, ℕ, ◌+◌, ◌-◌, ◌*◌, ◌<◌, List, [], ◌∷◌, ◌++◌, map, length, get_or, take, drop, sym, refl, ap, ◌∙◌, arith}
-use Rattle.std.proofs.lemmas.List.{append-nil, length-drop, length-take-le, take-append-drop, drop_all, drop-drop}
+use Rattle.std.proofs.Common.{◌≡◌, ℕ, zero, suc, ◌+◌, ◌-◌, ◌*◌, ◌<◌, List, [], ◌∷◌, ◌++◌, map, length, get_or, take, drop, take-add, sym, refl, ap, ◌∙◌, arith}
+use Rattle.std.proofs.lemmas.List.{length-take-le, take_all}
 use Rattle.std.specs.List.{range_with_len}
+use Rattle.std.specs.Simd.{first_chunks}
 use Rattle.sha256.specs.Words.{plus}
 use Rattle.sha256.specs.Block.{constants, words, extended, schedule, slid, round, rounds, first_sum, second_sum, loaded, added, compressed}
-use Rattle.sha256.proofs.Windows.{sixteen, extended_none, extended_window}
+use Rattle.sha256.proofs.Windows.{sixteen, slid_none, extended_none, length-extended, extended_more}
 use Rattle.sha256.specs.declared.round.Working.{Working}
 
 pub round_is : (v : Working) (k w first second : ℕ) → first ≡ first_sum v k w → second ≡ second_sum v →
@@ -49,54 +50,41 @@ constants-length : length constants ≡ 64
 unfolding constants
 constants-length = refl
 
-pub group_length : (g : ℕ) → g < 4 → length (take 16 (drop (16 * g) constants)) ≡ 16
-group_length g h =
+-- sixteen of the constants
+pub row : (g : ℕ) (d : List ℕ) → g < 4 → get_or (first_chunks 16 4 constants) g d ≡ take 16 (drop (16 * g) constants)
+unfolding constants
+row zero d h = refl
+row (suc zero) d h = refl
+row (suc (suc zero)) d h = refl
+row (suc (suc (suc zero))) d h = refl
+row (suc (suc (suc (suc g)))) d h = absurd (omega arith)
+
+-- the rounds of sixteen words more, g * 16 words after the first
+pub rounds_more : (g : ℕ) (v v' v0 : Working) (w ks : List ℕ) → g < 4 → length w ≡ 16 →
+    v ≡ rounds v0 (take (16 * g) constants) (extended (16 * (g - 1)) w) →
+    v' ≡ rounds v ks (slid (16 * g) w) → ks ≡ take 16 (drop (16 * g) constants) →
+    v' ≡ rounds v0 (take (16 * (g + 1)) constants) (extended (16 * g) w)
+rounds_more zero v v' v0 w ks h e p q r =
+    q ∙ ap (λ u. rounds u ks (slid 0 w)) p ∙ ap (λ x. rounds v0 x (slid 0 w)) r ∙ ap (rounds v0 (take 16 constants)) (sym (slid_none w) ∙ sym (extended_none w))
+rounds_more (suc i) v v' v0 w ks h e p q r =
     let n : length constants ≡ 64 = constants-length in
-    length-take-le 16 (drop (16 * g) constants) (simp length-drop (omega arith))
+    let k : ℕ = 16 * suc i in
+    let first : List ℕ = take k constants in
+    let used : List ℕ = extended (16 * i) w in
+    let back : 16 * (suc i - 1) ≡ 16 * i = omega arith in
+    let l : length first ≡ length used = length-take-le k constants (omega arith) ∙ omega (arith, length-extended (16 * i) w) in
+    let j : 16 * i + 16 ≡ k = omega arith in
+    let m : k + 16 ≡ 16 * (suc i + 1) = omega arith in
+    q ∙ ap (λ u. rounds u ks (slid k w)) (p ∙ ap (λ x. rounds v0 first (extended x w)) back) ∙ ap (λ x. rounds (rounds v0 first used) x (slid k w)) r
+    ∙ sym (rounds-append first used (take 16 (drop k constants)) (slid k w) v0 l)
+    ∙ ap (λ x. rounds v0 x (used ++ slid k w)) (sym (take-add k 16 constants) ∙ ap (λ x. take x constants) m)
+    ∙ ap (rounds v0 (take (16 * (suc i + 1)) constants)) (ap (λ x. used ++ slid x w) (sym j) ∙ sym (extended_more (16 * i) w e) ∙ ap (λ x. extended x w) j)
 
--- what is left once all constants are used
-none_left : (g : ℕ) (v : Working) (ws : List ℕ) → 3 < g → rounds v (drop (16 * g) constants) ws ≡ v
-none_left g v ws h =
-    let n : length constants ≡ 64 = constants-length in
-    ap (λ l. rounds v l ws) (drop_all (16 * g) constants (omega arith))
-
--- sixteen rounds, and the others after them
-rounds_on : (g : ℕ) (v v' : Working) (w rest : List ℕ) → g < 4 → length w ≡ 16 → v' ≡ rounds v (take 16 (drop (16 * g) constants)) w →
-    rounds v' (drop (16 * (g + 1)) constants) rest ≡ rounds v (drop (16 * g) constants) (w ++ rest)
-rounds_on g v v' w rest h e p =
-    let ks : List ℕ = drop (16 * g) constants in
-    let l : length (take 16 ks) ≡ length w = group_length g h ∙ sym e in
-    let j : 16 * (g + 1) ≡ 16 * g + 16 = omega arith in
-    ap (λ x. rounds x (drop (16 * (g + 1)) constants) rest) p
-    ∙ ap (λ i. rounds (rounds v (take 16 ks) w) i rest) (ap (λ i. drop i constants) j ∙ sym (drop-drop 16 (16 * g) constants))
-    ∙ sym (rounds-append (take 16 ks) w (drop 16 ks) rest v l)
-    ∙ ap (λ l. rounds v l (w ++ rest)) (take-append-drop 16 ks)
-
-pub group_more : (g : ℕ) (v v' : Working) (w w' : List ℕ) → g < 3 → length w ≡ 16 →
-    v' ≡ rounds v (take 16 (drop (16 * g) constants)) w → w' ≡ slid 16 w →
-    rounds v' (drop (16 * (g + 1)) constants) (extended (48 - 16 * (g + 1)) w')
-    ≡ rounds v (drop (16 * g) constants) (extended (48 - 16 * g) w)
-group_more g v v' w w' h e p q =
-    let m : ℕ = 48 - 16 * (g + 1) in
-    let j : 16 + m ≡ 48 - 16 * g = omega arith in
-    rounds_on g v v' w (extended m w') (omega arith) e p
-    ∙ ap (rounds v (drop (16 * g) constants)) (ap (λ x. w ++ extended m x) q ∙ sym (extended_window m w e) ∙ ap (λ n. extended n w) j)
-
-pub group_last : (g : ℕ) (v v' : Working) (w w' : List ℕ) → g ≡ 3 → length w ≡ 16 →
-    v' ≡ rounds v (take 16 (drop (16 * g) constants)) w →
-    rounds v' (drop (16 * (g + 1)) constants) (extended (48 - 16 * (g + 1)) w')
-    ≡ rounds v (drop (16 * g) constants) (extended (48 - 16 * g) w)
-group_last g v v' w w' h e p =
-    let j : 48 - 16 * g ≡ 0 = omega arith in
-    none_left (g + 1) v' (extended (48 - 16 * (g + 1)) w') (omega arith)
-    ∙ sym (none_left (g + 1) v' [] (omega arith))
-    ∙ rounds_on g v v' w [] (omega arith) e p
-    ∙ ap (rounds v (drop (16 * g) constants)) (append-nil w ∙ sym (extended_none w) ∙ ap (λ n. extended n w) (sym j))
-
-pub compress_is : (hash block w ws : List ℕ) (v v0 : Working) (g : ℕ) → g ≡ 4 → v0 ≡ loaded hash → w ≡ words block →
-    rounds v (drop (16 * g) constants) ws ≡ rounds v0 constants (extended 48 w) → added hash v ≡ compressed hash block
+pub compress_is : (hash block : List ℕ) (v : Working) (g : ℕ) → g ≡ 4 →
+    v ≡ rounds (loaded hash) (take (16 * g) constants) (extended (16 * (g - 1)) (words block)) → added hash v ≡ compressed hash block
 unfolding compressed schedule
-compress_is hash block w ws v v0 g e p q inv =
-    ap (added hash)
-    (sym (none_left g v ws (omega arith)) ∙ inv
-    ∙ ap (λ x. rounds x constants (extended 48 w)) p ∙ ap (λ x. rounds (loaded hash) constants (extended 48 x)) q)
+compress_is hash block v g e p =
+    let n : length constants ≡ 64 = constants-length in
+    let all : take 64 constants ≡ constants = take_all 64 constants (omega arith) in
+    ap (added hash) (p ∙ ap (λ k. rounds (loaded hash) (take (16 * k) constants) (extended (16 * (k - 1)) (words block))) e
+    ∙ ap (λ ks. rounds (loaded hash) ks (extended 48 (words block))) all)

@@ -54,7 +54,7 @@ extended-append (suc n) p w h =
     ∙ ap (extended n) (append_assoc p w (next w ∷ []))
     ∙ extended-append n p (w ++ next w ∷ []) more
 
-length-extended : (n : ℕ) (w : List ℕ) → length (extended n w) ≡ length w + n
+pub length-extended : (n : ℕ) (w : List ℕ) → length (extended n w) ≡ length w + n
 unfolding extended
 length-extended zero w = omega arith
 length-extended (suc n) w = length-extended n (w ++ next w ∷ []) ∙ simp length-append (omega arith)
@@ -92,12 +92,12 @@ slid-add n m w h =
     ∙ sym (drop-drop m n (take n all ++ extended m (drop n all)))
     ∙ ap (drop m) (drop_at (take n all) (extended m (drop n all)) n (length-take-le n all le))
 
--- the schedule from sixteen words on, as those and the schedule from the next sixteen on
-pub extended_window : (m : ℕ) (w : List ℕ) → length w ≡ 16 → extended (16 + m) w ≡ w ++ extended m (slid 16 w)
+-- the schedule, and sixteen words more
+pub extended_more : (n : ℕ) (w : List ℕ) → length w ≡ 16 → extended (n + 16) w ≡ extended n w ++ slid (n + 16) w
 unfolding slid
-extended_window m w e =
-    let more : 16 ≤ length (slid 16 w) = simp length-slid (omega arith) in
-    let front : take 16 (extended 16 w) ≡ w = ap (λ n. take n (extended 16 w)) (sym e) ∙ extended_front 16 w in
-    extended-add 16 m w
-    ∙ ap (extended m) (sym (take-append-drop 16 (extended 16 w)) ∙ ap (λ l. l ++ slid 16 w) front)
-    ∙ extended-append m w (slid 16 w) more
+extended_more n w e =
+    let all : List ℕ = extended (n + 16) w in
+    let k : length (extended n w) ≡ n + 16 = length-extended n w ∙ omega arith in
+    let front : take (n + 16) all ≡ extended n w =
+    ap (take (n + 16)) (extended-add n 16 w) ∙ ap (λ j. take j (extended 16 (extended n w))) (sym k) ∙ extended_front 16 (extended n w) in
+    sym (take-append-drop (n + 16) all) ∙ ap (λ l. l ++ drop (n + 16) all) front

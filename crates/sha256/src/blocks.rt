@@ -1,25 +1,12 @@
 // Bytes cut into blocks: whole ones are compressed, and the rest is held.
 ghost use Rattle.std.specs.Prelude.{◌≡◌, ◌+◌, ◌^◌, ◌<◌, ◌≤◌, length};
-ghost use Rattle.sha256.specs.Hash.{initial, chained, padding as padding_of};
+ghost use Rattle.sha256.specs.Hash.{initial, padding as padding_of};
 ghost use Rattle.sha256.specs.State.{Absorbed};
 
 use crate::block::compress;
 use crate::constants::INITIAL;
 use crate::padding::{first_byte, length_in_bits, zeros};
 use crate::state::Blocks;
-
-fn compress_all(hash: [u32; 8], bytes: &[u8]) -> [u32; 8]
-    ensures { result ≡ chained hash bytes.now }
-{
-    let mut hash = hash;
-    let mut i = 0;
-    while bytes.len() - i >= 64 {
-        let next = compress(hash, &bytes[i..i + 64]);
-        hash = next;
-        i += 64;
-    }
-    hash
-}
 
 impl Blocks {
     pub fn start() -> Blocks
@@ -41,8 +28,7 @@ impl Blocks {
         let end = self.filled + bytes.len();
         self.held[self.filled..end].copy_from_slice(bytes);
         if end == 64 {
-            let hash = compress(self.hash, &self.held);
-            self.hash = hash;
+            self.hash = compress(self.hash, &self.held);
             self.filled = 0;
         } else {
             self.filled = end;
@@ -53,12 +39,11 @@ impl Blocks {
     pub fn absorb(&mut self, bytes: &[u8])
         ensures { Absorbed self.old bytes.now self.new }
     {
-        let head = bytes.len().min((64 - self.filled) % 64);
-        self.hold(&bytes[0..head]);
-        let rest = &bytes[head..];
-        let hash = compress_all(self.hash, rest);
-        self.hash = hash;
-        self.hold(&rest[rest.len() / 64 * 64..]);
+        let (head, rest) = bytes.split_at(bytes.len().min((64 - self.filled) % 64));
+        self.hold(head);
+        let (blocks, tail) = rest.as_chunks::<64>();
+        self.hash = blocks.iter().fold(self.hash, compress);
+        self.hold(tail);
     }
 
     // The padding of a message of so many bytes.
@@ -69,6 +54,6 @@ impl Blocks {
         let zeros = zeros(count);
         let mut padding = first_byte();
         padding[zeros + 1..zeros + 9].copy_from_slice(&length_in_bits(count));
-        self.absorb(&padding[0..zeros + 9]);
+        self.absorb(&padding[..zeros + 9]);
     }
 }

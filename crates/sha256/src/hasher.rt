@@ -5,23 +5,16 @@ ghost use Rattle.sha256.specs.State.{digest_after, fed as fed_of};
 
 use crate::limit::TooLong;
 use crate::state::{Blocks, Sha256};
+use std::array;
 
 fn bytes_in(hash: [u32; 8]) -> [u8; 32]
     ensures { result ≡ bytes_of hash }
 {
-    let mut out = [0; 32];
-    for i in 0..8 {
-        let [a, b, c, d] = hash[i].to_be_bytes();
-        let k = 4 * i;
-        out[k] = a;
-        out[k + 1] = b;
-        out[k + 2] = c;
-        out[k + 3] = d;
-    }
-    out
+    array::from_fn(|i| hash[i / 4].to_be_bytes()[i % 4])
 }
 
 impl Sha256 {
+    #[tactic(auto, using(crate::proofs::Digests::new_is), unfolding(crate::specs::State::digest_after))]
     pub fn new() -> Sha256
         ensures { ((m : List ℕ) → digest_after result m ≡ sha256 m) × (fed_of result ≡ 0) }
     {
@@ -32,6 +25,7 @@ impl Sha256 {
     }
 
     // Bytes that keep the message within its limit.
+    #[tactic(auto, using(crate::proofs::Digests::update_is), unfolding(crate::specs::State::digest_after))]
     fn take(&mut self, bytes: &[u8])
         requires { fed_of self.old + length bytes.now < 2 ^ 61 }
         ensures digest { (m : List ℕ) →
@@ -60,6 +54,7 @@ impl Sha256 {
     }
 
     // The hash value after the padding.
+    #[tactic(auto, using(crate::proofs::Digests::finish_is), unfolding(crate::specs::State::digest_after))]
     fn last_hash(self) -> [u32; 8]
         ensures { bytes_of result ≡ digest_after self [] }
     {

@@ -1,8 +1,9 @@
 // The working variables, and their rounds.
-ghost use Rattle.std.specs.Prelude.{◌≡◌, length};
-ghost use Rattle.sha256.specs.Block.{first_sum, second_sum, round as round_of, rounds, loaded as loaded_of, added as added_to};
+ghost use Rattle.std.specs.Prelude.{◌≡◌};
+ghost use Rattle.sha256.specs.Block.{first_sum, second_sum, round as round_of, rounds, loaded, added as added_to};
 
-use crate::word::{big_sigma_0, big_sigma_1, ch, maj};
+use crate::word::{big_sigma, ch, maj};
+use std::array;
 
 // FIPS 180-4 names them a to h.
 #[derive(Clone, Copy)]
@@ -20,7 +21,7 @@ pub struct Working {
 fn first_sum(v: Working, k: u32, w: u32) -> u32
     ensures { result ≡ first_sum v k w }
 {
-    v.h.wrapping_add(big_sigma_1(v.e))
+    v.h.wrapping_add(big_sigma::<6, 11, 25>(v.e))
         .wrapping_add(ch(v.e, v.f, v.g))
         .wrapping_add(k)
         .wrapping_add(w)
@@ -29,9 +30,10 @@ fn first_sum(v: Working, k: u32, w: u32) -> u32
 fn second_sum(v: Working) -> u32
     ensures { result ≡ second_sum v }
 {
-    big_sigma_0(v.a).wrapping_add(maj(v.a, v.b, v.c))
+    big_sigma::<2, 13, 22>(v.a).wrapping_add(maj(v.a, v.b, v.c))
 }
 
+#[tactic(auto, using(crate::proofs::Rounds::round_is))]
 fn round(v: Working, k: u32, w: u32) -> Working
     ensures { result ≡ round_of v k w }
 {
@@ -50,9 +52,8 @@ fn round(v: Working, k: u32, w: u32) -> Working
 }
 
 // Written out, so that no working variable moves from round to round.
-pub fn sixteen_rounds(v: Working, k: &[u32], w: [u32; 16]) -> Working
-    requires { length k.now ≡ 16 }
-    ensures { result ≡ rounds v k.now w }
+pub fn sixteen_rounds(v: Working, k: &[u32; 16], w: &[u32; 16]) -> Working
+    ensures { result ≡ rounds v k.now w.now }
 {
     let v = round(v, k[0], w[0]);
     let v = round(v, k[1], w[1]);
@@ -72,32 +73,27 @@ pub fn sixteen_rounds(v: Working, k: &[u32], w: [u32; 16]) -> Working
     round(v, k[15], w[15])
 }
 
-pub fn loaded(hash: [u32; 8]) -> Working
-    ensures { result ≡ loaded_of hash }
-{
-    Working {
-        a: hash[0],
-        b: hash[1],
-        c: hash[2],
-        d: hash[3],
-        e: hash[4],
-        f: hash[5],
-        g: hash[6],
-        h: hash[7],
+impl From<[u32; 8]> for Working {
+    ghost from_gives = { λ hash v. v ≡ loaded hash };
+
+    fn from(hash: [u32; 8]) -> Working {
+        let [a, b, c, d, e, f, g, h] = hash;
+        Working {
+            a,
+            b,
+            c,
+            d,
+            e,
+            f,
+            g,
+            h,
+        }
     }
 }
 
 pub fn added(hash: [u32; 8], v: Working) -> [u32; 8]
     ensures { result ≡ added_to hash v }
 {
-    [
-        hash[0].wrapping_add(v.a),
-        hash[1].wrapping_add(v.b),
-        hash[2].wrapping_add(v.c),
-        hash[3].wrapping_add(v.d),
-        hash[4].wrapping_add(v.e),
-        hash[5].wrapping_add(v.f),
-        hash[6].wrapping_add(v.g),
-        hash[7].wrapping_add(v.h),
-    ]
+    let words = [v.a, v.b, v.c, v.d, v.e, v.f, v.g, v.h];
+    array::from_fn(|i| hash[i].wrapping_add(words[i]))
 }

@@ -15,38 +15,32 @@ pub fn definition_at_abc() -> bool
 
 #[cfg(test)]
 mod tests {
+    use hex::FromHexError;
     use sha256::{Sha256, TooLong, digest};
+    use std::array;
     use std::test::Fail;
 
-    fn digit(c: u8) -> u8
-        ensures { result < 16 }
-    {
-        match c {
-            b'0'..=b'9' => c - b'0',
-            b'a'..=b'f' => c - b'a' + 10,
-            _ => 0,
-        }
-    }
-
-    // The bytes that the text has in hexadecimal.
-    fn hex(text: &[u8; 64]) -> [u8; 32] {
+    // The digest that the text has in hexadecimal.
+    fn written(text: &[u8; 64]) -> Result<[u8; 32], FromHexError> {
         let mut bytes = [0; 32];
-        for i in 0..32 {
-            bytes[i] = 16 * digit(text[2 * i]) + digit(text[2 * i + 1]);
-        }
-        bytes
+        hex::decode_to_slice(text.as_slice(), &mut bytes)?;
+        Ok(bytes)
     }
 
     #[test]
     fn empty(rt: HostRuntime) -> Result<(), Fail> {
-        let published = hex(b"e3b0c44298fc1c149afbf4c8996fb92427ae41e4649b934ca495991b7852b855");
+        let published = written(
+            b"e3b0c44298fc1c149afbf4c8996fb92427ae41e4649b934ca495991b7852b855",
+        )?;
         assert_eq!(rt; digest(b"")?, published);
         Ok(())
     }
 
     #[test]
     fn one_block(rt: HostRuntime) -> Result<(), Fail> {
-        let published = hex(b"ba7816bf8f01cfea414140de5dae2223b00361a396177a9cb410ff61f20015ad");
+        let published = written(
+            b"ba7816bf8f01cfea414140de5dae2223b00361a396177a9cb410ff61f20015ad",
+        )?;
         assert_eq!(rt; digest(b"abc")?, published);
         Ok(())
     }
@@ -54,7 +48,9 @@ mod tests {
     #[test]
     fn two_blocks(rt: HostRuntime) -> Result<(), Fail> {
         let message = b"abcdbcdecdefdefgefghfghighijhijkijkljklmklmnlmnomnopnopq";
-        let published = hex(b"248d6a61d20638b8e5c026930c3e6039a33ce45964ff2167f6ecedd419db06c1");
+        let published = written(
+            b"248d6a61d20638b8e5c026930c3e6039a33ce45964ff2167f6ecedd419db06c1",
+        )?;
         assert_eq!(rt; digest(message)?, published);
         Ok(())
     }
@@ -65,7 +61,9 @@ mod tests {
         for _ in 0..1000usize {
             hasher.update(&[b'a'; 1000])?;
         }
-        let published = hex(b"cdc76e5c9914fb9281a1c7e284d73e67f1809a48a497200e046d39ccc7112cd0");
+        let published = written(
+            b"cdc76e5c9914fb9281a1c7e284d73e67f1809a48a497200e046d39ccc7112cd0",
+        )?;
         assert_eq!(rt; hasher.finish(), published);
         Ok(())
     }
@@ -74,25 +72,22 @@ mod tests {
         requires { cut ≤ length message.now }
     {
         let mut hasher = Sha256::new();
-        hasher.update(&message[0..cut])?;
-        hasher.update(&message[cut..])?;
+        let (head, tail) = message.split_at(cut);
+        hasher.update(head)?;
+        hasher.update(tail)?;
         Ok(hasher.finish())
     }
 
     fn numbered() -> [u8; 130] {
-        let mut bytes = [0; 130];
-        for i in 0..130u8 {
-            bytes[i as usize] = i;
-        }
-        bytes
+        array::from_fn(|i| i as u8)
     }
 
     #[test]
     fn cut_in_two(rt: HostRuntime) -> Result<(), Fail> {
         let bytes = numbered();
-        for len in 0..131 {
-            let message = &bytes[0..len];
-            for cut in 0..len + 1 {
+        for len in 0..=bytes.len() {
+            let message = &bytes[..len];
+            for cut in 0..=len {
                 assert_eq!(rt; digest_in_two(message, cut)?, digest(message)?);
             }
         }

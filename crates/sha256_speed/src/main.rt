@@ -12,7 +12,6 @@ fn main(rt: HostRuntime) -> io::Result<()> {
             return println!(rt; "too long");
         }
     }
-    let digest = hasher.finish();
-    let [a, b, c, d] = [digest[0], digest[1], digest[2], digest[3]];
+    let [a, b, c, d, ..] = hasher.finish();
     println!(rt; "{a:02x} {b:02x} {c:02x} {d:02x}")
 }

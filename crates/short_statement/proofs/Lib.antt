@@ -1,4 +1,3 @@
 pub mod Filling
-pub mod Keys
 pub mod Numbers
 pub mod Places

@@ -1,5 +1,5 @@
 -- Sums over the layers at one place: one layer more, and the entries of the reduced sum and of the sum in whole numbers.
-use Rattle.std.proofs.Common.{◌≡◌, ℕ, zero, suc, ◌+◌, ◌-◌, ◌*◌, ◌%◌, ◌^◌, ◌<◌, ◌≤◌, eqb, List, [], ◌∷◌, map, length, get_or, take, drop, ℤ, pos, negsuc, ◌+ℤ◌, sym, refl, ap, ◌∙◌, ap₂, ⊎_elim, mul-le-mul_right, zero-mul, arith, w32, SFits}
+use Rattle.std.proofs.Common.{◌≡◌, ℕ, zero, suc, ◌+◌, ◌-◌, ◌*◌, ◌%◌, ◌^◌, ◌<◌, ◌≤◌, eqb, List, [], ◌∷◌, map, length, get_or, take, drop, ℤ, pos, negsuc, ◌+ℤ◌, sym, refl, ap, ◌∙◌, ap₂, ⊎_elim, arith}
 use native.Mathlib.Nat.{zero-mod, add-mod-mod, two-pow-succ}
 use Rattle.std.proofs.lemmas.Nat.{pow_below}
 use Rattle.std.proofs.lemmas.List.{drop-drop, get_or-drop, get_or-map, get_or-take, get_or-replicate, length-drop, length-map, length-replicate, length-take-le, ext_get_or}
@@ -22,9 +22,6 @@ module _ (K N j i : ℕ) (h : 0 < j) (l : j ≤ K) where
   left : K - (j - 1) ≡ suc (K - j)
   left = omega arith
 
-  pub place-within : i < N → (j - 1) * N + i < K * N
-  place-within p = omega (arith, before, mul-le-mul_right N l)
-
   pub power_before : 2 ^ (K - (j - 1)) ≡ 2 ^ (K - j) + 2 ^ (K - j)
   power_before = ap (λ n. 2 ^ n) left ∙ two-pow-succ (K - j)
 
@@ -42,20 +39,6 @@ module _ (K N j i : ℕ) (h : 0 < j) (l : j ≤ K) where
     signed_place_sum-before q =
         ap (λ n. signed_place_sum q N i n (drop ((j - 1) * N) zs)) left
         ∙ ap₂ (λ x r. signed q x +ℤ (signed_place_sum q N i (K - j) r +ℤ signed_place_sum q N i (K - j) r)) (get_or-drop ((j - 1) * N) zs i 0) rest
-
--- what a function of the layers from layer j on is at the last j and at the first
-module _ {X : Type 0} (F : ℕ → List ℕ → X) (K N : ℕ) (zs : List ℕ) where
-  pub from_last : F (K - K) (drop (K * N) zs) ≡ F 0 (drop (K * N) zs)
-  from_last =
-      let e : K - K ≡ 0 = omega arith in
-      ap (λ n. F n (drop (K * N) zs)) e
-
-  pub from_first : (j : ℕ) → j ≤ 0 → F (K - j) (drop (j * N) zs) ≡ F K zs
-  from_first j h =
-      let e : j ≡ 0 = omega arith in
-      let k : K - j ≡ K = omega arith in
-      let d : j * N ≡ 0 = ap (λ n. n * N) e ∙ zero-mul N in
-      ap₂ F k (ap (λ n. drop n zs) d)
 
 -- at most 15 layers
 pub power_small : (n : ℕ) → n ≤ 15 → 2 ^ n ≤ 32768
@@ -113,11 +96,7 @@ pub gathered_from_sums : (q m K : ℕ) (zs : List ℕ) (out : List ℤ) → leng
 gathered_from_sums q m K zs out e d h =
     ext_get_or (pos 0) out (gathered q m K zs) (d ∙ sym (length-gathered q m K zs e)) (λ i l. h i (omega arith) ∙ sym (get_or-gathered q m K zs i (omega arith) e))
 
--- sizes, and the numbers of 32 bits
-pub fits_from_size : (z : ℤ) → size z < 2147483648 → SFits w32 z
-fits_from_size (pos n) h = record { sfits = h }
-fits_from_size (negsuc n) h = record { sfits = omega arith }
-
+-- sizes
 pub size-signed : (q x : ℕ) → x ≤ 65535 → size (signed q x) ≤ 65535
 size-signed q x h = cond_both (eqb x (q - 1)) (negsuc 0) (pos x) (λ z. size z ≤ 65535) (λ _. omega arith) (λ _. h)
 

@@ -7,25 +7,15 @@ pub fn binary_digits(number: usize) -> usize
     requires { number ≤ 32767 }
     ensures { (result ≡ digits number) × (result ≤ 15) }
 {
-    let mut rest = number;
-    let mut count = 0;
-    while rest > 0 {
-        rest /= 2;
-        count += 1;
-    }
-    count
+    (usize::BITS - number.leading_zeros()) as usize
 }
 
 // Says whether each entry is from −most to most.
 pub fn all_within(key: &[i32], most: usize) -> bool
     ensures { result ≡ sizes_within most key.now }
 {
-    for number in key {
-        if number.unsigned_abs() as usize > most {
-            return false;
-        }
-    }
-    true
+    key.iter()
+        .all(|number| number.unsigned_abs() as usize <= most)
 }
 
 fn residue(entry: i32, q: u16) -> u16
@@ -40,8 +30,8 @@ pub fn write_residues(key: &[i32], q: u16, out: &mut [u16])
     requires { (length out.old ≡ length key.now) × (0 < q) }
     ensures { out.new ≡ map (residue_of q) key.now }
 {
-    for i in 0..out.len() {
-        out[i] = residue(key[i], q);
+    for (i, entry) in key.iter().enumerate() {
+        out[i] = residue(*entry, q);
     }
 }
 
@@ -65,7 +55,7 @@ pub fn write_digits(key: &[i32], j: usize, q: u16, out: &mut [u16])
     requires { (length out.old ≡ length key.now) × ((j < 32) × (0 < q)) }
     ensures { out.new ≡ map (signed_digit q j) key.now }
 {
-    for i in 0..out.len() {
-        out[i] = digit(key[i], j, q);
+    for (i, entry) in key.iter().enumerate() {
+        out[i] = digit(*entry, j, q);
     }
 }

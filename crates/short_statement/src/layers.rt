@@ -44,6 +44,7 @@ pub fn write_layers(key: &[i32], layer_count: usize, q: u16, layers: &mut [u16])
     ensures { layers.new ≡ digit_layers q (length key.now) 0 layer_count key.now }
 {
     let layer_len = 3 * key.len();
+    // by index: after `chunks_exact_mut` a proof knows only the slice's length
     for j in 0..layer_count {
         let start = j * layer_len;
         write_layer(key, j, q, &mut layers[start..start + layer_len]);

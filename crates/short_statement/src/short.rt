@@ -7,73 +7,60 @@ ghost use Rattle.relation_laws.specs.Statements.{short_fault};
 ghost use Rattle.relation_laws.specs.Short.{digits, short as short_relation, short_product};
 ghost use Rattle.relation_laws.proofs.ShortLaws.{short_lawful};
 ghost use Rattle.statements.specs.Given.{statement};
-ghost use Rattle.statements.specs.Made.{Faultless, Dimensions, Lengths, none_from_faultless};
+ghost use Rattle.statements.specs.Made.{Faultless, none_from_faultless};
 
 use crate::entries::{all_within, binary_digits, write_residues};
 use crate::layers::{has_thirds, write_layers};
 use crate::sums::{combine, gather_entries};
 use refusals::refusal::Refusal;
 use relation::Relation;
-use statements::checks::{check, whole, within};
+use statements::checked::Checked;
 use statements::given::Given;
-use statements::products::{multiply, product_is};
-use vectors::modular::all_below;
 use vectors::zeroing::ZeroOnDrop;
 
 #[derive(Clone, Copy)]
 pub struct Short<'a> {
-    given: Given<'a>,
-    ghost made: { Faultless (short_fault (statement given)) },
-    ghost dimensions: { Dimensions given },
-    ghost modulus: { (3 ≤ given.modulus) × (given.modulus ≤ 65535) },
-    ghost bound: { (1 ≤ given.bound) × (given.bound ≤ 32767) },
-    ghost lengths: { Lengths given },
+    checked: Checked<'a>,
+    ghost made: { Faultless (short_fault (statement checked.given)) },
+    ghost modulus: { 3 ≤ checked.given.modulus },
+    ghost bound: { checked.given.bound ≤ 32767 },
 }
 
 impl<'a> Short<'a> {
     // The smallest statement, which is there to be set.
     pub fn smallest() -> Short<'a>
-        ensures { statement result.given ≡ record { q = 3; rows = 1; columns = 1; bound = 1; matrix = 0 ∷ []; target = 0 ∷ [] } }
+        ensures { statement result.checked.given ≡ record { q = 3; rows = 1; columns = 1; bound = 1; matrix = 0 ∷ []; target = 0 ∷ [] } }
     {
-        Short {
-            given: Given {
-                modulus: 3,
-                rows: 1,
-                columns: 1,
-                bound: 1,
-                matrix: &[0],
-                target: &[0],
-            },
-        }
+        Short::new(Given::smallest(3)).unwrap()
+    }
+
+    pub fn new(given: Given<'a>) -> Result<Short<'a>, Refusal>
+        ensures { Answered (short_fault (statement given.entry)) result (λ short. statement short.checked.given ≡ statement given.entry) (Unit {0}) }
+    {
+        let checked = Checked::new(given, 3..=65535, 1..=32767)?;
+        Ok(Short { checked })
     }
 
     // Takes the statement, or refuses it and stays as it was.
     pub fn set(&mut self, given: Given<'a>) -> Result<(), Refusal>
-        ensures { Answered (short_fault (statement given.entry)) result (λ _. statement self.new.given ≡ statement given.entry) (self.new ≡ self.old) }
+        ensures { Answered (short_fault (statement given.entry)) result (λ _. statement self.new.checked.given ≡ statement given.entry) (self.new ≡ self.old) }
     {
-        let modulus_in = within(3, 65535, given.modulus);
-        let bound_in = within(1, 32767, given.bound);
-        if let Err(refusal) = check(&given, modulus_in, bound_in) {
-            return Err(refusal);
-        }
-        *self = Short { given };
+        *self = Short::new(given)?;
         Ok(())
     }
 
     // Says whether each layer has its shape.
     fn all_shaped(&self, layers: &[u16]) -> bool
-        requires { length layers.now ≡ digits self.now.given.bound * (3 * self.now.given.columns) }
-        ensures { result ≡ shapes (short_relation (statement self.now.given)) (digits self.now.given.bound) layers.now }
+        requires { length layers.now ≡ digits self.now.checked.given.bound * (3 * self.now.checked.given.columns) }
+        ensures { result ≡ shapes (short_relation (statement self.now.checked.given)) (digits self.now.checked.given.bound) layers.now }
     {
-        let columns = self.given.columns;
+        let columns = self.checked.columns();
         let layer_len = 3 * columns;
-        for j in 0..binary_digits(self.given.bound) {
+        // by index: a proof does not see that `chunks_exact` yields layer j as its item j
+        for j in 0..binary_digits(self.checked.bound()) {
             let start = j * layer_len;
-            if !has_thirds(
-                &layers[start..start + layer_len],
-                columns,
-                self.given.modulus as u16,
-            ) {
+            let layer = &layers[start..start + layer_len];
+            if !has_thirds(layer, columns, self.checked.modulus()) {
                 return false;
             }
         }
@@ -82,54 +69,55 @@ impl<'a> Short<'a> {
 
     // Says whether the image of the layers is the target.
     fn image_is_target(&self, layers: &[u16]) -> bool
-        requires { length layers.now ≡ digits self.now.given.bound * (3 * self.now.given.columns) }
-        ensures { result ≡ same ((short_relation (statement self.now.given)).image layers.now []) self.now.given.target.now }
+        requires { length layers.now ≡ digits self.now.checked.given.bound * (3 * self.now.checked.given.columns) }
+        ensures { result ≡ same ((short_relation (statement self.now.checked.given)).image layers.now []) self.now.checked.given.target.now }
     {
-        let given = self.given;
-        let q = given.modulus as u16;
         let mut buffer = [0; 256];
         let guard = ZeroOnDrop { area: &mut buffer };
-        let sum = &mut guard.area[0..given.columns];
-        combine(layers, binary_digits(given.bound), q, sum);
-        product_is(given.matrix, given.columns, sum, q, given.target)
+        let sum = &mut guard.area[0..self.checked.columns()];
+        combine(
+            layers,
+            binary_digits(self.checked.bound()),
+            self.checked.modulus(),
+            sum,
+        );
+        self.checked.has_product(sum)
     }
 
     // Says whether A·key is the target.
     fn product_is_target(&self, key: &[i32]) -> bool
-        requires { length key.now ≡ self.now.given.columns }
-        ensures { result ≡ same (short_product (statement self.now.given) key.now) self.now.given.target.now }
+        requires { length key.now ≡ self.now.checked.given.columns }
+        ensures { result ≡ same (short_product (statement self.now.checked.given) key.now) self.now.checked.given.target.now }
     {
-        let given = self.given;
-        let q = given.modulus as u16;
         let mut buffer = [0; 256];
         let guard = ZeroOnDrop { area: &mut buffer };
-        let residues = &mut guard.area[0..given.columns];
-        write_residues(key, q, residues);
-        product_is(given.matrix, given.columns, residues, q, given.target)
+        let residues = &mut guard.area[0..self.checked.columns()];
+        write_residues(key, self.checked.modulus(), residues);
+        self.checked.has_product(residues)
     }
 }
 
 impl<'a> Relation for Short<'a> {
     type Entry = i32;
 
-    ghost meaning = { λ x. short_relation (statement x.given) };
+    ghost meaning = { λ x. short_relation (statement x.checked.given) };
 
-    ghost laws = { λ x. short_lawful (statement x.given) (none_from_faultless (short_fault (statement x.given)) x.made) };
+    ghost laws = { λ x. short_lawful (statement x.checked.given) (none_from_faultless (short_fault (statement x.checked.given)) x.made) };
 
     fn modulus(&self) -> u16 {
-        self.given.modulus as u16
+        self.checked.modulus()
     }
 
     fn key_len(&self) -> usize {
-        self.given.columns
+        self.checked.columns()
     }
 
     fn layer_count(&self) -> usize {
-        binary_digits(self.given.bound)
+        binary_digits(self.checked.bound())
     }
 
     fn layer_len(&self) -> usize {
-        3 * self.given.columns
+        3 * self.checked.columns()
     }
 
     fn free_len(&self) -> usize {
@@ -137,91 +125,67 @@ impl<'a> Relation for Short<'a> {
     }
 
     fn image_len(&self) -> usize {
-        self.given.rows
+        self.checked.rows()
     }
 
     fn shape(&self, j: usize, layer: &[u16]) -> Result<bool, Refusal> {
-        let given = self.given;
-        if j >= binary_digits(given.bound)
-            || layer.len() != 3 * given.columns
-            || !all_below(layer, given.modulus)
-        {
+        let checked = self.checked;
+        let columns = checked.columns();
+        if j >= binary_digits(checked.bound()) || !checked.whole(layer, 3 * columns, &[], 0) {
             return Err(Refusal::RelationArgument);
         }
-        Ok(has_thirds(layer, given.columns, given.modulus as u16))
+        Ok(has_thirds(layer, columns, checked.modulus()))
     }
 
     fn image(&self, layers: &[u16], free: &[u16], out: &mut [u16]) -> Result<(), Refusal> {
-        let given = self.given;
-        let q = given.modulus as u16;
-        let layer_count = binary_digits(given.bound);
-        if out.len() != given.rows
-            || !whole(
-                layers,
-                layer_count * (3 * given.columns),
-                free,
-                0,
-                given.modulus,
-            )
-        {
+        let checked = self.checked;
+        let layer_count = binary_digits(checked.bound());
+        let layers_len = layer_count * (3 * checked.columns());
+        if out.len() != checked.rows() || !checked.whole(layers, layers_len, free, 0) {
             return Err(Refusal::RelationArgument);
         }
         let mut buffer = [0; 256];
         let guard = ZeroOnDrop { area: &mut buffer };
-        let sum = &mut guard.area[0..given.columns];
-        combine(layers, layer_count, q, sum);
-        multiply(given.matrix, given.columns, sum, q, out);
+        let sum = &mut guard.area[0..checked.columns()];
+        combine(layers, layer_count, checked.modulus(), sum);
+        checked.multiply(sum, out);
         Ok(())
     }
 
     fn target(&self, out: &mut [u16]) -> Result<(), Refusal> {
-        if out.len() != self.given.rows {
-            return Err(Refusal::RelationArgument);
-        }
-        out.copy_from_slice(self.given.target);
-        Ok(())
+        self.checked.write_target(out)
     }
 
     fn split(&self, key: &[i32], layers: &mut [u16], free: &mut [u16]) -> Result<(), Refusal> {
-        let given = self.given;
-        let layer_count = binary_digits(given.bound);
-        if layers.len() != layer_count * (3 * given.columns) || free.len() != 0 {
+        let checked = self.checked;
+        let layer_count = binary_digits(checked.bound());
+        if layers.len() != layer_count * (3 * checked.columns()) || free.len() != 0 {
             return Err(Refusal::RelationArgument);
         }
-        if key.len() != given.columns {
+        if key.len() != checked.columns() {
             return Err(Refusal::KeyLength);
         }
-        if !all_within(key, given.bound) {
+        if !all_within(key, checked.bound()) {
             return Err(Refusal::KeyEntryOutOfRange);
         }
         if !self.product_is_target(key) {
             return Err(Refusal::KeyImage);
         }
-        write_layers(key, layer_count, given.modulus as u16, layers);
+        write_layers(key, layer_count, checked.modulus(), layers);
         Ok(())
     }
 
     fn gather(&self, layers: &[u16], free: &[u16], key: &mut [i32]) -> Result<(), Refusal> {
-        let given = self.given;
-        let layer_count = binary_digits(given.bound);
-        if key.len() != given.columns
-            || !whole(
-                layers,
-                layer_count * (3 * given.columns),
-                free,
-                0,
-                given.modulus,
-            )
-        {
+        let checked = self.checked;
+        let layer_count = binary_digits(checked.bound());
+        let layers_len = layer_count * (3 * checked.columns());
+        if key.len() != checked.columns() || !checked.whole(layers, layers_len, free, 0) {
             return Err(Refusal::RelationArgument);
         }
-        if !self.all_shaped(layers) {
+        if !self.all_shaped(layers) || !self.image_is_target(layers) {
             return Err(Refusal::NoExtractedKey);
         }
-        if !self.image_is_target(layers) {
-            return Err(Refusal::NoExtractedKey);
-        }
-        gather_entries(layers, layer_count, given.modulus as u16, key);
+        gather_entries(layers, layer_count, checked.modulus(), key);
         Ok(())
     }
 }

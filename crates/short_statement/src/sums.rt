@@ -8,6 +8,7 @@ fn place_sum(layers: &[u16], layer_len: usize, layer_count: usize, i: usize) -> 
     requires { (length layers.now ≡ layer_count * layer_len) × ((layer_count ≤ 15) × (i < layer_len)) }
     ensures { result ≡ place_sum_of layer_len i layer_count layers.now }
 {
+    // a loop: a proof finds no bound for the total of a fold
     let mut sum: u64 = 0;
     for j in (0..layer_count).rev() {
         sum = layers[j * layer_len + i] as u64 + 2 * sum;
@@ -21,8 +22,8 @@ pub fn combine(layers: &[u16], layer_count: usize, q: u16, out: &mut [u16])
     ensures { out.new ≡ combined q (length out.old) layer_count layers.now }
 {
     let layer_len = 3 * out.len();
-    for i in 0..out.len() {
-        out[i] = (place_sum(layers, layer_len, layer_count, i) % q as u64) as u16;
+    for (i, place) in out.iter_mut().enumerate() {
+        *place = (place_sum(layers, layer_len, layer_count, i) % q as u64) as u16;
     }
 }
 
@@ -46,6 +47,7 @@ fn signed_place_sum(layers: &[u16], layer_len: usize, layer_count: usize, i: usi
     requires { (length layers.now ≡ layer_count * layer_len) × ((layer_count ≤ 15) × ((i < layer_len) × (0 < q))) }
     ensures { result ≡ signed_place_sum_of q layer_len i layer_count layers.now }
 {
+    // a loop: a proof finds no bound for the total of a fold
     let mut sum: i32 = 0;
     for j in (0..layer_count).rev() {
         sum = with_doubled(signed(layers[j * layer_len + i], q), sum);
@@ -59,7 +61,7 @@ pub fn gather_entries(layers: &[u16], layer_count: usize, q: u16, out: &mut [i32
     ensures { out.new ≡ gathered q (length out.old) layer_count layers.now }
 {
     let layer_len = 3 * out.len();
-    for i in 0..out.len() {
-        out[i] = signed_place_sum(layers, layer_len, layer_count, i, q);
+    for (i, place) in out.iter_mut().enumerate() {
+        *place = signed_place_sum(layers, layer_len, layer_count, i, q);
     }
 }

@@ -14,33 +14,19 @@ const EXAMPLE: Given<'static> = Given {
 };
 
 fn making(given: Given<'static>) -> u8 {
-    let mut noise = Noise::smallest();
-    number(noise.set(given))
-}
-
-fn made(given: Given<'static>) -> Noise<'static> {
-    let mut noise = Noise::smallest();
-    let _ = noise.set(given);
-    noise
+    number(Noise::new(given))
 }
 
 fn split(key: &[u8]) -> (u8, [u16; 4], [u16; 2]) {
-    let mut layer = [9; 4];
-    let mut free = [9; 2];
-    let answer = made(EXAMPLE).split(key, &mut layer, &mut free);
-    (number(answer), layer, free)
+    crate::split(Noise::new(EXAMPLE), key)
 }
 
 fn gather(layer: &[u16], free: &[u16]) -> (u8, [u8; 2]) {
-    let mut key = [9; 2];
-    let answer = made(EXAMPLE).gather(layer, free, &mut key);
-    (number(answer), key)
+    crate::gather(Noise::new(EXAMPLE), layer, free, 9)
 }
 
 fn image(layer: &[u16], free: &[u16]) -> (u8, [u16; 4]) {
-    let mut out = [9; 4];
-    let answer = made(EXAMPLE).image(layer, free, &mut out);
-    (number(answer), out)
+    crate::image(Noise::new(EXAMPLE), layer, free)
 }
 
 #[test]

@@ -17,41 +17,28 @@ const EXAMPLE: Given<'static> = Given {
 const LAYERS: [u16; 18] = [1, 10, 10, 0, 0, 1, 0, 10, 10, 0, 1, 1, 1, 0, 10, 10, 0, 1];
 
 fn making(given: Given<'static>) -> u8 {
-    let mut short = Short::smallest();
-    number(short.set(given))
+    number(Short::new(given))
 }
 
-fn made(given: Given<'static>) -> Short<'static> {
-    let mut short = Short::smallest();
-    let _ = short.set(given);
-    short
-}
-
-fn split(key: &[i32]) -> (u8, [u16; 18]) {
-    let mut layers = [9; 18];
-    let answer = made(EXAMPLE).split(key, &mut layers, &mut []);
-    (number(answer), layers)
+fn split(key: &[i32]) -> (u8, [u16; 18], [u16; 0]) {
+    crate::split(Short::new(EXAMPLE), key)
 }
 
 fn gather(layers: &[u16]) -> (u8, [i32; 2]) {
-    let mut key = [9; 2];
-    let answer = made(EXAMPLE).gather(layers, &[], &mut key);
-    (number(answer), key)
+    crate::gather(Short::new(EXAMPLE), layers, &[], 9)
 }
 
 fn image(layers: &[u16], free: &[u16]) -> (u8, [u16; 1]) {
-    let mut out = [9; 1];
-    let answer = made(EXAMPLE).image(layers, free, &mut out);
-    (number(answer), out)
+    crate::image(Short::new(EXAMPLE), layers, free)
 }
 
 #[test]
 fn keys_are_taken_or_refused(rt: HostRuntime) {
-    assert_eq!(rt; split(&[5, -3]), (0, LAYERS));
-    assert_eq!(rt; split(&[5, -3, 0]), (21, [9; 18]));
-    assert_eq!(rt; split(&[6, -3]), (22, [9; 18]));
-    assert_eq!(rt; split(&[0, -2147483648]), (22, [9; 18]));
-    assert_eq!(rt; split(&[5, 3]), (24, [9; 18]));
+    assert_eq!(rt; split(&[5, -3]), (0, LAYERS, []));
+    assert_eq!(rt; split(&[5, -3, 0]), (21, [9; 18], []));
+    assert_eq!(rt; split(&[6, -3]), (22, [9; 18], []));
+    assert_eq!(rt; split(&[0, -2147483648]), (22, [9; 18], []));
+    assert_eq!(rt; split(&[5, 3]), (24, [9; 18], []));
 }
 
 #[test]
@@ -125,7 +112,9 @@ const LARGEST: Given<'static> = Given {
 
 // Splits the key into 15 layers, and gathers these.
 fn back(given: Given<'static>, key: &[i32]) -> (u8, [i32; 256]) {
-    let short = made(given);
+    let Ok(short) = Short::new(given) else {
+        return (1, [0; 256]);
+    };
     let mut layers = [0; 11520];
     let mut gathered = [0; 256];
     if short.split(key, &mut layers, &mut []).is_err() {

@@ -2,6 +2,7 @@
 use crate::number;
 use relation::Relation;
 use statements::given::Given;
+use std::test::Fail;
 use weight_statement::weight::Weight;
 
 const EXAMPLE: Given<'static> = Given {
@@ -14,42 +15,29 @@ const EXAMPLE: Given<'static> = Given {
 };
 
 fn making(given: Given<'static>) -> u8 {
-    let mut weight = Weight::smallest();
-    number(weight.set(given))
+    number(Weight::new(given))
 }
 
-fn made(given: Given<'static>) -> Weight<'static> {
-    let mut weight = Weight::smallest();
-    let _ = weight.set(given);
-    weight
-}
-
-fn split(key: &[u8]) -> (u8, [u16; 4]) {
-    let mut layers = [9; 4];
-    let answer = made(EXAMPLE).split(key, &mut layers, &mut []);
-    (number(answer), layers)
+fn split(key: &[u8]) -> (u8, [u16; 4], [u16; 0]) {
+    crate::split(Weight::new(EXAMPLE), key)
 }
 
 fn gather(layers: &[u16]) -> (u8, [u8; 4]) {
-    let mut key = [9; 4];
-    let answer = made(EXAMPLE).gather(layers, &[], &mut key);
-    (number(answer), key)
+    crate::gather(Weight::new(EXAMPLE), layers, &[], 9)
 }
 
 fn image(layers: &[u16]) -> (u8, [u16; 1]) {
-    let mut out = [9; 1];
-    let answer = made(EXAMPLE).image(layers, &[], &mut out);
-    (number(answer), out)
+    crate::image(Weight::new(EXAMPLE), layers, &[])
 }
 
 #[test]
 fn keys_are_taken_or_refused(rt: HostRuntime) {
-    assert_eq!(rt; split(&[1, 0, 0, 1]), (0, [1, 0, 0, 1]));
-    assert_eq!(rt; split(&[0, 1, 1, 0]), (0, [0, 1, 1, 0]));
-    assert_eq!(rt; split(&[1, 0, 0]), (21, [9; 4]));
-    assert_eq!(rt; split(&[2, 0, 0, 0]), (22, [9; 4]));
-    assert_eq!(rt; split(&[1, 0, 0, 0]), (23, [9; 4]));
-    assert_eq!(rt; split(&[1, 1, 0, 0]), (24, [9; 4]));
+    assert_eq!(rt; split(&[1, 0, 0, 1]), (0, [1, 0, 0, 1], []));
+    assert_eq!(rt; split(&[0, 1, 1, 0]), (0, [0, 1, 1, 0], []));
+    assert_eq!(rt; split(&[1, 0, 0]), (21, [9; 4], []));
+    assert_eq!(rt; split(&[2, 0, 0, 0]), (22, [9; 4], []));
+    assert_eq!(rt; split(&[1, 0, 0, 0]), (23, [9; 4], []));
+    assert_eq!(rt; split(&[1, 1, 0, 0]), (24, [9; 4], []));
 }
 
 #[test]
@@ -109,8 +97,8 @@ fn statements_are_taken_or_refused(rt: HostRuntime) {
 }
 
 #[test]
-fn refused_statements_leave_the_old_one(rt: HostRuntime) {
-    let mut weight = made(EXAMPLE);
+fn refused_statements_leave_the_old_one(rt: HostRuntime) -> Result<(), Fail> {
+    let mut weight = Weight::new(EXAMPLE)?;
     assert_eq!(rt;
         number(weight.set(Given {
             modulus: 4,
@@ -119,6 +107,7 @@ fn refused_statements_leave_the_old_one(rt: HostRuntime) {
         15
     );
     assert_eq!(rt; weight.modulus(), 5);
+    Ok(())
 }
 
 static MINUS_ONES: [u16; 16384] = [65534; 16384];
@@ -138,22 +127,21 @@ const LARGEST: Given<'static> = Given {
 };
 
 #[test]
-fn every_column_may_be_one(rt: HostRuntime) {
+fn every_column_may_be_one(rt: HostRuntime) -> Result<(), Fail> {
+    let weight = Weight::new(LARGEST)?;
     let mut layers = [0; 256];
-    assert_eq!(rt;
-        number(made(LARGEST).split(&[1; 256], &mut layers, &mut [])),
-        0
-    );
+    assert_eq!(rt; number(weight.split(&[1; 256], &mut layers, &mut [])), 0);
     assert_eq!(rt; layers, [1; 256]);
+    Ok(())
 }
 
 #[test]
-fn one_column_may_be_one(rt: HostRuntime) {
-    let weight = made(Given {
+fn one_column_may_be_one(rt: HostRuntime) -> Result<(), Fail> {
+    let weight = Weight::new(Given {
         bound: 1,
         target: &MINUS_ONE,
         ..LARGEST
-    });
+    })?;
     let mut key = [0; 256];
     key[255] = 1;
     let mut layers = [0; 256];
@@ -161,4 +149,5 @@ fn one_column_may_be_one(rt: HostRuntime) {
     let mut out = [0; 64];
     assert_eq!(rt; number(weight.image(&layers, &[], &mut out)), 0);
     assert_eq!(rt; out, MINUS_ONE);
+    Ok(())
 }

@@ -1,4 +1,3 @@
 pub mod Calls
-pub mod Counting
 pub mod Making
 pub mod Rows

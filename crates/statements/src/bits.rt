@@ -7,8 +7,8 @@ pub fn widen(bytes: &[u8], numbers: &mut [u16])
     requires { length bytes.now ≡ length numbers.old }
     ensures { numbers.new ≡ bytes.now }
 {
-    for i in 0..numbers.len() {
-        numbers[i] = bytes[i] as u16;
+    for (i, byte) in bytes.iter().enumerate() {
+        numbers[i] = u16::from(*byte);
     }
 }
 
@@ -17,7 +17,7 @@ pub fn narrow(numbers: &[u16], bytes: &mut [u8])
     requires { (length numbers.now ≡ length bytes.old) × (below 2 numbers.now ≡ true) }
     ensures { bytes.new ≡ numbers.now }
 {
-    for i in 0..bytes.len() {
-        bytes[i] = numbers[i] as u8;
+    for (i, number) in numbers.iter().enumerate() {
+        bytes[i] = *number as u8;
     }
 }

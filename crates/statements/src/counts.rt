@@ -6,13 +6,7 @@ ghost use Rattle.relation_laws.specs.Products.{ones as ones_of};
 pub fn count_of(values: &[u16], value: u16) -> usize
     ensures { (result ≡ count value values.now) × (result ≤ length values.now) }
 {
-    let mut found = 0;
-    for x in values {
-        if *x == value {
-            found += 1;
-        }
-    }
-    found
+    values.iter().filter(|x| value == **x).count()
 }
 
 // Says whether the list has this many ones, and zeros otherwise.

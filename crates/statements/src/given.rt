@@ -1,4 +1,6 @@
 // A statement as the caller gives it, not checked yet.
+ghost use Rattle.std.specs.Prelude.{◌≡◌, [], ◌∷◌};
+ghost use Rattle.statements.specs.Given.{statement};
 
 // A matrix, row by row, and a target, both lent, with the numbers of one kind of statement.
 #[derive(Clone, Copy)]
@@ -10,4 +12,20 @@ pub struct Given<'a> {
     pub bound: usize,
     pub matrix: &'a [u16],
     pub target: &'a [u16],
+}
+
+impl<'a> Given<'a> {
+    // The smallest statement of a kind with this modulus.
+    pub fn smallest(modulus: usize) -> Given<'a>
+        ensures { statement result ≡ record { q = modulus; rows = 1; columns = 1; bound = 1; matrix = 0 ∷ []; target = 0 ∷ [] } }
+    {
+        Given {
+            modulus,
+            rows: 1,
+            columns: 1,
+            bound: 1,
+            matrix: &[0],
+            target: &[0],
+        }
+    }
 }

@@ -2,6 +2,7 @@
 #![tactic(auto)]
 
 pub mod bits;
+pub mod checked;
 pub mod checks;
 pub mod counts;
 pub mod given;

@@ -5,14 +5,11 @@ ghost use Rattle.vectors.specs.Lists.{same};
 
 // The sum of the products of the entries.
 fn dot(left: &[u16], right: &[u16]) -> u64
-    requires { (length left.now ≡ length right.now) × (length left.now ≤ 256) }
+    requires { length left.now ≤ 256 }
     ensures { result ≡ dot_of left.now right.now }
 {
-    let mut sum: u64 = 0;
-    for i in 0..left.len() {
-        sum += left[i] as u64 * right[i] as u64;
-    }
-    sum
+    let pairs = left.iter().zip(right);
+    pairs.map(|(x, y)| u64::from(*x) * u64::from(*y)).sum()
 }
 
 // Writes one entry for each row.
@@ -20,9 +17,10 @@ pub fn multiply(matrix: &[u16], columns: usize, vector: &[u16], q: u16, out: &mu
     requires { (length matrix.now ≡ length out.old * columns) × ((length vector.now ≡ columns) × ((columns ≤ 256) × (0 < q))) }
     ensures { out.new ≡ product q columns (length out.old) matrix.now vector.now }
 {
-    for i in 0..out.len() {
+    for (i, entry) in out.iter_mut().enumerate() {
         let start = i * columns;
-        out[i] = (dot(&matrix[start..start + columns], vector) % q as u64) as u16;
+        let row = &matrix[start..start + columns];
+        *entry = (dot(row, vector) % q as u64) as u16;
     }
 }
 
@@ -31,9 +29,10 @@ pub fn product_is(matrix: &[u16], columns: usize, vector: &[u16], q: u16, target
     requires { (length matrix.now ≡ length target.now * columns) × ((length vector.now ≡ columns) × ((columns ≤ 256) × (0 < q))) }
     ensures { result ≡ same (product q columns (length target.now) matrix.now vector.now) target.now }
 {
-    for i in 0..target.len() {
+    for (i, entry) in target.iter().enumerate() {
         let start = i * columns;
-        if dot(&matrix[start..start + columns], vector) % q as u64 != target[i] as u64 {
+        let row = &matrix[start..start + columns];
+        if dot(row, vector) % q as u64 != *entry as u64 {
             return false;
         }
     }

@@ -1,5 +1,5 @@
 // Commits to a message under three schemes, opens the commitments, and shows what does not open them.
-use crate::text::{hex, yes_or_no};
+use crate::text::{show_outcome, yes_or_no};
 use commitment::message::{commit, opens};
 use commitment::part::Part;
 use commitment::scheme::Scheme;
@@ -50,7 +50,7 @@ fn commit_and_open<S: Scheme>(
         println!(rt; "{name}: refused by {refusal}")?;
         return Ok(commitment);
     }
-    let digits = hex(rt.alloc(), &commitment)?;
+    let digits = hex::encode(rt.alloc(), &commitment)?;
     println!(rt; "{name}: {digits}")?;
     show_opening(
         rt,
@@ -84,36 +84,28 @@ fn show_opening(rt: &HostRuntime, by: &str, answer: Result<bool, Refusal>) -> an
 
 // Wrong lengths, each refused by its number.
 fn show_refusals(rt: &HostRuntime, message: &[u8]) -> anyhow::Result<()> {
-    show_refusal(
+    show_outcome(
         rt,
         "31 coins",
         under_hash(&COINS[0..31], Part::Bytes(message), &mut [0; 32]),
     )?;
-    show_refusal(
+    show_outcome(
         rt,
         "an output of 31 bytes",
         under_hash(&COINS, Part::Bytes(message), &mut [0; 31]),
     )?;
-    show_refusal(
+    show_outcome(
         rt,
         "a message of 65,538 bytes",
         under_hash(&COINS, Part::Words(&[0; 32769]), &mut [0; 32]),
     )?;
-    let label = match Labelled::new(b"seventeen letters", Hash::new()) {
-        Ok(_) => Ok(()),
-        Err(refusal) => Err(refusal),
-    };
-    show_refusal(rt, "a label of 17 bytes", label)
+    show_outcome(
+        rt,
+        "a label of 17 bytes",
+        Labelled::new(b"seventeen letters", Hash::new()),
+    )
 }
 
 fn under_hash(coins: &[u8], part: Part, commitment: &mut [u8]) -> Result<(), Refusal> {
     commit(&mut Hash::new(), coins, &[part], commitment)
-}
-
-fn show_refusal(rt: &HostRuntime, what: &str, answer: Result<(), Refusal>) -> anyhow::Result<()> {
-    match answer {
-        Ok(()) => println!(rt; "{what}: taken")?,
-        Err(refusal) => println!(rt; "{what}: refused by {refusal}")?,
-    }
-    Ok(())
 }

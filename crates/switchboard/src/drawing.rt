@@ -1,9 +1,11 @@
 // Draws a mask from random bytes, writes a commitments message and reads it again.
 use crate::keys::weight_given;
-use crate::text::{hex, show_numbers};
+use crate::text::show_numbers;
 use commitment::message::commit;
 use commitment::part::Part;
 use masks::draw::draw;
+use masks::mask::MaskMut;
+use messages::fields::Triple;
 use messages::reader::read_commitments;
 use messages::writer::write_commitments;
 use refusals::refusal::Refusal;
@@ -37,27 +39,21 @@ pub fn fill_from(start: u32, random: &mut [u8]) {
 
 // Says whether a mask was drawn.
 fn draw_mask(rt: &HostRuntime, random: &[u8], coins: &mut [u8]) -> anyhow::Result<bool> {
-    let mut statement = Weight::smallest();
-    if let Err(refusal) = statement.set(weight_given(5)) {
-        println!(rt; "the statement is refused by {refusal}")?;
-        return Ok(false);
-    }
+    let statement = Weight::new(weight_given(5))?;
     let len = random.len();
     let mut permutations = [0u16; 4];
     let mut layers = [0u16; 4];
-    match draw(
-        &statement,
-        &Hash::new(),
-        random,
-        &mut permutations,
-        &mut layers,
-        &mut [],
+    let mut mask = MaskMut {
+        permutations: &mut permutations,
+        layers: &mut layers,
+        free: &mut [],
         coins,
-    ) {
+    };
+    match draw(&statement, &Hash::new(), random, &mut mask) {
         Ok(count) => {
             println!(rt; "a mask from {len} random bytes: {count} of them were read")?;
-            show_numbers(rt, "permutation", &permutations)?;
-            show_numbers(rt, "R", &layers)?;
+            show_numbers(rt, "permutation", mask.permutations)?;
+            show_numbers(rt, "R", mask.layers)?;
             Ok(true)
         }
         Err(refusal) => {
@@ -67,57 +63,40 @@ fn draw_mask(rt: &HostRuntime, random: &[u8], coins: &mut [u8]) -> anyhow::Resul
     }
 }
 
-fn show_message(rt: &HostRuntime, coins: &[u8]) -> anyhow::Result<()> {
-    let mut one = [0u8; 32];
-    let mut two = [0u8; 32];
-    let mut three = [0u8; 32];
-    if let Err(refusal) = commit_three(coins, &mut one, &mut two, &mut three) {
-        println!(rt; "no commitments: refused by {refusal}")?;
-        return Ok(());
-    }
+fn show_message(rt: &HostRuntime, coins: &[u8; 96]) -> anyhow::Result<()> {
+    let one = committed(&coins[0..32], b"first")?;
+    let two = committed(&coins[32..64], b"second")?;
+    let three = committed(&coins[64..96], b"third")?;
     let mut message = [0u8; 105];
-    match write_commitments(&mut message, &one, &two, &three) {
-        Ok(len) => println!(rt; "commitments message of {len} bytes")?,
-        Err(refusal) => println!(rt; "commitments message: refused by {refusal}")?,
-    }
+    let len = write_commitments(
+        &mut message,
+        Triple {
+            one: &one,
+            two: &two,
+            three: &three,
+        },
+    )?;
+    println!(rt; "commitments message of {len} bytes")?;
     show_reading(rt, &message)?;
     show_reading(rt, &message[0..80])
 }
 
-fn commit_three(
-    coins: &[u8],
-    one: &mut [u8],
-    two: &mut [u8],
-    three: &mut [u8],
-) -> Result<(), Refusal> {
-    if coins.len() != 96 {
-        return Err(Refusal::CoinsLength);
-    }
+fn committed(coins: &[u8], message: &[u8]) -> Result<[u8; 32], Refusal> {
+    let mut commitment = [0; 32];
     commit(
         &mut Hash::new(),
-        &coins[0..32],
-        &[Part::Bytes(b"first")],
-        one,
+        coins,
+        &[Part::Bytes(message)],
+        &mut commitment,
     )?;
-    commit(
-        &mut Hash::new(),
-        &coins[32..64],
-        &[Part::Bytes(b"second")],
-        two,
-    )?;
-    commit(
-        &mut Hash::new(),
-        &coins[64..96],
-        &[Part::Bytes(b"third")],
-        three,
-    )
+    Ok(commitment)
 }
 
 fn show_reading(rt: &HostRuntime, message: &[u8]) -> anyhow::Result<()> {
     let len = message.len();
     match read_commitments(message, 32) {
         Ok(read) => {
-            let digits = hex(rt.alloc(), read.third.content)?;
+            let digits = hex::encode(rt.alloc(), read.third.content)?;
             let offset = read.third.offset;
             println!(rt; "  read from {len} bytes: commitment 3 at byte {offset} is {digits}")?;
         }

@@ -1,7 +1,6 @@
 // Makes one statement of each kind, tries right and wrong keys, splits a key into layers and gathers it again.
-use crate::text::show_numbers;
+use crate::text::{show_numbers, show_outcome};
 use noise_statement::noise::Noise;
-use refusals::refusal::Refusal;
 use relation::Relation;
 use short_statement::short::Short;
 use statements::given::Given;
@@ -15,49 +14,25 @@ pub fn run(rt: &HostRuntime) -> anyhow::Result<()> {
 
 fn weight(rt: &HostRuntime) -> anyhow::Result<()> {
     println!(rt; "weight statement: modulus 5, matrix (1 2 3 4), target 0, two ones")?;
-    let mut statement = Weight::smallest();
     show_outcome(
         rt,
-        "modulus 65,536 in place of 5",
-        statement.set(weight_given(65536)),
+        "  modulus 65,536 in place of 5",
+        Weight::new(weight_given(65536)),
     )?;
-    show_outcome(rt, "the statement", statement.set(weight_given(5)))?;
-    show_split(
-        rt,
-        "key 1001",
-        &statement,
-        &[1, 0, 0, 1],
-        &mut [0; 4],
-        &mut [],
-    )?;
-    show_split(
-        rt,
-        "key 1100",
-        &statement,
-        &[1, 1, 0, 0],
-        &mut [0; 4],
-        &mut [],
-    )?;
-    show_split(
-        rt,
-        "key 1000",
-        &statement,
-        &[1, 0, 0, 0],
-        &mut [0; 4],
-        &mut [],
-    )?;
-    show_split(
-        rt,
-        "key 2000",
-        &statement,
-        &[2, 0, 0, 0],
-        &mut [0; 4],
-        &mut [],
-    )?;
+    let statement = Weight::new(weight_given(5))?;
+    show_outcome(rt, "  the statement", Ok(()))?;
+    for (name, key) in [
+        ("key 1001", [1, 0, 0, 1]),
+        ("key 1100", [1, 1, 0, 0]),
+        ("key 1000", [1, 0, 0, 0]),
+        ("key 2000", [2, 0, 0, 0]),
+    ] {
+        show_split(rt, name, &statement, &key, &mut [0; 4], &mut [])?;
+    }
     let mut key = [0u8; 4];
     show_outcome(
         rt,
-        "gathering the layer 0 1 1 0",
+        "  gathering the layer 0 1 1 0",
         statement.gather(&[0, 1, 1, 0], &[], &mut key),
     )?;
     let [a, b, c, d] = key;
@@ -78,8 +53,8 @@ pub fn weight_given(modulus: usize) -> Given<'static> {
 
 fn short(rt: &HostRuntime) -> anyhow::Result<()> {
     println!(rt; "short statement: modulus 11, matrix (1 2), target 10, sizes up to 5")?;
-    let mut statement = Short::smallest();
-    show_outcome(rt, "the statement", statement.set(short_given()))?;
+    let statement = Short::new(short_given())?;
+    show_outcome(rt, "  the statement", Ok(()))?;
     let mut layers = [0u16; 18];
     show_split(
         rt,
@@ -93,7 +68,7 @@ fn short(rt: &HostRuntime) -> anyhow::Result<()> {
     let mut key = [0i32; 2];
     show_outcome(
         rt,
-        "gathering those layers",
+        "  gathering those layers",
         statement.gather(&layers, &[], &mut key),
     )?;
     let [a, b] = key;
@@ -114,11 +89,12 @@ pub fn short_given() -> Given<'static> {
 
 fn noise(rt: &HostRuntime) -> anyhow::Result<()> {
     println!(rt; "noise statement: rows 10, 01, 11, 10, target 1111, one difference")?;
-    let mut statement = Noise::smallest();
-    show_outcome(rt, "the statement", statement.set(noise_given()))?;
-    show_split(rt, "key 11", &statement, &[1, 1], &mut [0; 4], &mut [0; 2])?;
-    show_split(rt, "key 10", &statement, &[1, 0], &mut [0; 4], &mut [0; 2])?;
-    show_split(rt, "key 01", &statement, &[0, 1], &mut [0; 4], &mut [0; 2])
+    let statement = Noise::new(noise_given())?;
+    show_outcome(rt, "  the statement", Ok(()))?;
+    for (name, key) in [("key 11", [1, 1]), ("key 10", [1, 0]), ("key 01", [0, 1])] {
+        show_split(rt, name, &statement, &key, &mut [0; 4], &mut [0; 2])?;
+    }
+    Ok(())
 }
 
 pub fn noise_given() -> Given<'static> {
@@ -130,14 +106,6 @@ pub fn noise_given() -> Given<'static> {
         matrix: &[1, 0, 0, 1, 1, 1, 1, 0],
         target: &[1, 1, 1, 1],
     }
-}
-
-fn show_outcome(rt: &HostRuntime, what: &str, outcome: Result<(), Refusal>) -> anyhow::Result<()> {
-    match outcome {
-        Ok(()) => println!(rt; "  {what}: taken")?,
-        Err(refusal) => println!(rt; "  {what}: refused by {refusal}")?,
-    }
-    Ok(())
 }
 
 // Splits the key and prints its layers and its free part, or the refusal.
@@ -153,7 +121,7 @@ fn show_split<R: Relation>(
         Ok(()) => {
             println!(rt; "  {name}: a key of the statement")?;
             show_numbers(rt, "layers", layers)?;
-            if free.len() > 0 {
+            if !free.is_empty() {
                 show_numbers(rt, "free part", free)?;
             }
         }

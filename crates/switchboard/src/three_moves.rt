@@ -2,14 +2,15 @@
 // and the verdict, also for a forged answer.
 use crate::drawing::fill;
 use crate::keys::{noise_given, short_given, weight_given};
-use crate::text::{front, hex};
+use crate::text::front;
 use console_moves::answering::answer;
 use console_moves::committing::commit;
-use exchange_moves::judging::judge;
+use exchange_moves::judging::{Verdict, judge};
 use masks::draw::draw;
+use masks::mask::MaskMut;
 use messages::challenge::Challenge;
+use messages::fields::Triple;
 use noise_statement::noise::Noise;
-use refusals::cause::Cause;
 use refusals::refusal::Refusal;
 use relation::Relation;
 use schemes::hash::Hash;
@@ -18,43 +19,33 @@ use weight_statement::weight::Weight;
 
 pub fn run(rt: &HostRuntime) -> anyhow::Result<()> {
     println!(rt; "the three moves, once for each kind of statement")?;
-    let mut weight = Weight::smallest();
-    if let Ok(()) = weight.set(weight_given(5)) {
-        show_moves(
-            rt,
-            "weight",
-            &weight,
-            &[1, 0, 0, 1],
-            &mut [0; 4],
-            &mut [0; 4],
-            &mut [],
-        )?;
-    }
-    let mut short = Short::smallest();
-    if let Ok(()) = short.set(short_given()) {
-        show_moves(
-            rt,
-            "short",
-            &short,
-            &[5, -3],
-            &mut [0; 18],
-            &mut [0; 18],
-            &mut [],
-        )?;
-    }
-    let mut noise = Noise::smallest();
-    if let Ok(()) = noise.set(noise_given()) {
-        show_moves(
-            rt,
-            "noise",
-            &noise,
-            &[1, 1],
-            &mut [0; 4],
-            &mut [0; 4],
-            &mut [0; 2],
-        )?;
-    }
-    Ok(())
+    show_moves(
+        rt,
+        "weight",
+        &Weight::new(weight_given(5))?,
+        &[1, 0, 0, 1],
+        &mut [0; 4],
+        &mut [0; 4],
+        &mut [],
+    )?;
+    show_moves(
+        rt,
+        "short",
+        &Short::new(short_given())?,
+        &[5, -3],
+        &mut [0; 18],
+        &mut [0; 18],
+        &mut [],
+    )?;
+    show_moves(
+        rt,
+        "noise",
+        &Noise::new(noise_given())?,
+        &[1, 1],
+        &mut [0; 4],
+        &mut [0; 4],
+        &mut [0; 2],
+    )
 }
 
 fn show_moves<R: Relation>(
@@ -70,58 +61,42 @@ fn show_moves<R: Relation>(
     fill(&mut random);
     let mut scheme = Hash::new();
     let mut coins = [0u8; 96];
-    if let Err(refusal) = draw(
-        statement,
-        &scheme,
-        &random,
+    let mut places = MaskMut {
         permutations,
         layers,
         free,
-        &mut coins,
-    ) {
-        println!(rt; "  {name}: no mask, refused by {refusal}")?;
-        return Ok(());
-    }
+        coins: &mut coins,
+    };
+    draw(statement, &scheme, &random, &mut places)?;
+    let mask = places.as_mask();
     let mut commitments = [0u8; 105];
-    match commit(
+    let len = commit(
         statement,
         &mut scheme,
         key,
-        permutations,
-        layers,
-        free,
-        &coins,
+        mask,
         &mut [0; 20],
         &mut commitments,
-    ) {
-        Ok(len) => {
-            let start = hex(rt.alloc(), &commitments[0..8])?;
-            println!(rt; "  {name}: commitments message of {len} bytes, {start}…")?;
-        }
-        Err(refusal) => println!(rt; "  {name}: no commitments, refused by {refusal}")?,
-    }
+    )?;
+    let start = hex::encode(rt.alloc(), &commitments[0..8])?;
+    println!(rt; "  {name}: commitments message of {len} bytes, {start}…")?;
     for challenge in [Challenge::One, Challenge::Two, Challenge::Three] {
         let mut message = [0u8; 160];
-        match answer(
+        let len = answer(
             statement,
             &scheme,
             key,
-            permutations,
-            layers,
-            free,
-            &coins,
+            mask,
             challenge.number(),
             &mut [0; 20],
             &mut message,
-        ) {
-            Ok(len) => show_verdicts(rt, statement, &commitments, challenge, len, &mut message)?,
-            Err(refusal) => println!(rt; "    no answer, refused by {refusal}")?,
-        }
+        )?;
+        show_verdicts(rt, statement, &commitments, challenge, len, &mut message)?;
     }
     Ok(())
 }
 
-// Judges an answer, and the same answer with its last content byte changed.
+// Judges an answer, the same answer with a byte of its first field changed, and cut off by a byte.
 fn show_verdicts<R: Relation>(
     rt: &HostRuntime,
     statement: &R,
@@ -131,7 +106,7 @@ fn show_verdicts<R: Relation>(
     message: &mut [u8; 160],
 ) -> anyhow::Result<()> {
     let number = challenge.number();
-    let start = hex(rt.alloc(), &message[0..8])?;
+    let start = hex::encode(rt.alloc(), &message[0..8])?;
     println!(rt; "    challenge {number}: answer of {len} bytes, {start}…")?;
     show_verdict(
         rt,
@@ -162,13 +137,16 @@ fn judged<R: Relation>(
     commitments: &[u8; 105],
     challenge: Challenge,
     message: &[u8],
-) -> Result<Option<Cause>, Refusal> {
+) -> Result<Verdict, Refusal> {
+    let commitments = Triple {
+        one: &commitments[3..35],
+        two: &commitments[38..70],
+        three: &commitments[73..105],
+    };
     judge(
         statement,
         &mut Hash::new(),
-        &commitments[3..35],
-        &commitments[38..70],
-        &commitments[73..105],
+        commitments,
         challenge,
         message,
         &mut [0; 20],
@@ -178,11 +156,11 @@ fn judged<R: Relation>(
 fn show_verdict(
     rt: &HostRuntime,
     what: &str,
-    verdict: Result<Option<Cause>, Refusal>,
+    verdict: Result<Verdict, Refusal>,
 ) -> anyhow::Result<()> {
     match verdict {
-        Ok(None) => println!(rt; "      {what}: yes")?,
-        Ok(Some(cause)) => println!(rt; "      {what}: no, {cause}")?,
+        Ok(Ok(())) => println!(rt; "      {what}: yes")?,
+        Ok(Err(cause)) => println!(rt; "      {what}: no, {cause}")?,
         Err(refusal) => println!(rt; "      {what}: refused by {refusal}")?,
     }
     Ok(())

@@ -3,13 +3,13 @@ use Rattle.std.proofs.Common.{◌≡◌, ℕ, zero, suc, ◌+◌, ◌-◌, ◌*�
 use Rattle.std.proofs.lemmas.Bool.{cond-true, cond-false, cases_eq}
 use Rattle.vectors.specs.Permutations.{permutes}
 use Rattle.vectors.specs.Layers.{layer, first_failing, Permutations}
-use Rattle.vectors.proofs.Layers.{row_layer, length-layer}
+use Rattle.vectors.proofs.Layers.{row_at, length-layer}
 use Rattle.vectors.proofs.Once.{permutation_from_permutes, permutes_from_permutation}
 
--- the test of layer j as the checker reads `&ps[j * N..j * N + N]`
-pub permutes_row : (N K j : ℕ) (ps : List ℕ) → length ps ≡ K * N → j < K
-    → permutes (length (take (j * N + N - j * N) (drop (j * N) ps))) (take (j * N + N - j * N) (drop (j * N) ps)) ≡ permutes N (layer N j ps)
-permutes_row N K j ps e l = ap₂ permutes (ap length (row_layer N j ps) ∙ length-layer N K ps j e l) (row_layer N j ps)
+-- the test of layer j as the checker reads `&ps[start..end]` at its places
+pub permutes_row : (N K j start end : ℕ) (ps : List ℕ) → start ≡ j * N → end ≡ j * N + N → length ps ≡ K * N → j < K
+    → permutes (length (take (end - start) (drop start ps))) (take (end - start) (drop start ps)) ≡ permutes N (layer N j ps)
+permutes_row N K j start end ps s e h l = let r = row_at N j start end ps s e in ap₂ permutes (ap length r ∙ length-layer N K ps j h l) r
 
 none_cond : (b : Bool) (found : Option ℕ) (j : ℕ) → cond b found (Some j) ≡ None → (b ≡ true) × (found ≡ None)
 none_cond true found j h = (refl, h)

@@ -19,6 +19,10 @@ row_layer N j zs =
     let n : j * N + N - j * N ≡ N = omega arith in
     ap (λ n. take n (drop (j * N) zs)) n
 
+-- layer j as the checker reads `&zs[start..end]` at its places
+pub row_at : (N j start end : ℕ) (zs : List ℕ) → start ≡ j * N → end ≡ j * N + N → take (end - start) (drop start zs) ≡ layer N j zs
+row_at N j start end zs s e = rw (s, e) (row_layer N j zs)
+
 pub layer-zero : (N : ℕ) (zs : List ℕ) → layer N 0 zs ≡ take N zs
 layer-zero N zs = ap (λ n. take N (drop n zs)) (zero-mul N)
 

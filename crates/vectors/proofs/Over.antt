@@ -1,9 +1,7 @@
 -- What a part written over a list leaves, and parts written one behind another.
-use Rattle.std.proofs.Common.{◌≡◌, ℕ, suc, ◌+◌, ◌-◌, ◌<◌, ◌≤◌, List, [], ◌∷◌, ◌++◌, length, get_or, take, drop, set, sym, refl, ap, ◌∙◌, ⊎_elim, add-zero, add-one, arith}
+use Rattle.std.proofs.Common.{◌≡◌, ℕ, ◌+◌, ◌<◌, ◌≤◌, List, [], ◌∷◌, ◌++◌, length, take, drop, set, sym, refl, ap, ◌∙◌, add-zero, add-one, arith}
 use borrow.Rule.Slice.PartMut.{put_mid}
-use Rattle.std.proofs.lemmas.List.Edits.{sets, sets-eq}
-use Rattle.std.proofs.lemmas.List.{append_assoc, length-append, length-drop, length-take-le, take-append-drop, drop-drop, take_at, drop_at, set_split, length-set, same_lists, get_or-take, get_or-drop, get_or_append_left, get_or-append_right, get_or-append-add}
-use Rattle.std.proofs.lemmas.Bool.{cases_lt}
+use Rattle.std.proofs.lemmas.List.{append_assoc, length-append, length-drop, length-take-le, take-append-drop, drop-drop, take_at, drop_at, set_split, length-set}
 use Rattle.vectors.specs.Over.{over}
 
 pub over_none : {A : Type 0} (old : List A) (at : ℕ) → over old at [] ≡ old
@@ -59,42 +57,6 @@ module _ {A : Type 0} (old : List A) (at : ℕ) (bs : List A) (h : at + length b
       ap (take (length bs)) (drop_at (take at old) (bs ++ drop (at + length bs) old) at (length-take-le at old (omega arith)))
       ∙ take_at bs (drop (at + length bs) old) (length bs) refl
 
-  pub get_or-over-before : (k : ℕ) (d : A) → k < at → get_or (over old at bs) k d ≡ get_or old k d
-  unfolding over
-  get_or-over-before k d l =
-      let t = length-take-le at old (omega arith) in
-      get_or_append_left (take at old) (bs ++ drop (at + length bs) old) d k (omega arith) ∙ get_or-take at old k d l
-
-  pub get_or-over-part : (k : ℕ) (d : A) → k < length bs → get_or (over old at bs) (at + k) d ≡ get_or bs k d
-  unfolding over
-  get_or-over-part k d l =
-      let t : length (take at old) + k ≡ at + k = ap (λ n. n + k) (length-take-le at old (omega arith)) in
-      ap (λ n. get_or (over old at bs) n d) (sym t) ∙ get_or-append-add (take at old) (bs ++ drop (at + length bs) old) k d
-      ∙ get_or_append_left bs (drop (at + length bs) old) d k l
-
-  pub get_or-over_behind : (k : ℕ) (d : A) → at + length bs ≤ k → get_or (over old at bs) k d ≡ get_or old k d
-  unfolding over
-  get_or-over_behind k d l =
-      let n : at + length bs + (k - at - length bs) ≡ k = omega arith in
-      get_or-append_right (take at old) (bs ++ drop (at + length bs) old) at k d (length-take-le at old (omega arith)) (omega arith)
-      ∙ get_or-append_right bs (drop (at + length bs) old) (length bs) (k - at) d refl (omega arith)
-      ∙ get_or-drop (at + length bs) old (k - at - length bs) d ∙ ap (λ i. get_or old i d) n
-
-  pub over_from_get_or : (new : List A) → length new ≡ length old → ((k : ℕ) (d : A) → k < at → get_or new k d ≡ get_or old k d)
-      → ((k : ℕ) (d : A) → k < length bs → get_or new (at + k) d ≡ get_or bs k d) → ((k : ℕ) (d : A) → at + length bs ≤ k → get_or new k d ≡ get_or old k d)
-      → new ≡ over old at bs
-  over_from_get_or new n before here behind = same_lists new (over old at bs) (n ∙ sym length_over) (λ k d _. each k d)
-    where
-      inside : (k : ℕ) (d : A) → at ≤ k → k < at + length bs → get_or new k d ≡ get_or (over old at bs) k d
-      inside k d l u =
-          let e : at + (k - at) ≡ k = omega arith in
-          ap (λ i. get_or new i d) (sym e) ∙ here (k - at) d (omega arith) ∙ sym (get_or-over-part (k - at) d (omega arith)) ∙ ap (λ i. get_or (over old at bs) i d) e
-
-      each : (k : ℕ) (d : A) → get_or new k d ≡ get_or (over old at bs) k d
-      each k d =
-          ⊎_elim (λ l. before k d l ∙ sym (get_or-over-before k d l))
-          (λ l. ⊎_elim (λ u. inside k d l u) (λ u. behind k d u ∙ sym (get_or-over_behind k d u)) (cases_lt k (at + length bs))) (cases_lt k at)
-
 -- a copy into `out[a..a + k]`
 pub over-part : {A : Type 0} (a k : ℕ) (xs ys : List A) → k ≡ length ys → put_mid a k xs ys ≡ over xs a ys
 unfolding over
@@ -110,12 +72,3 @@ over-two old at b d h =
     let l = length-set old at b in
     over_behind old (set old at b) (set (set old at b) (at + 1) d) at (at + 1) (b ∷ []) (d ∷ []) (over-one old at b (omega arith)) refl (omega arith)
     (over-one (set old at b) (at + 1) d (omega arith))
-
--- a part written entry by entry, from place `at` on
-pub sets_over : {A : Type 0} (old : List A) (at : ℕ) (bs : List A) → at + length bs ≤ length old → sets old at bs ≡ over old at bs
-unfolding over
-sets_over old at bs h = sets-eq bs old at h ∙ append_assoc (take at old) bs (drop (at + length bs) old)
-
-pub set_sets : {A : Type 0} (old : List A) (at : ℕ) (bs : List A) (b : A) (n : ℕ) → n ≡ at + length bs → set (sets old at bs) n b ≡ sets old at (bs ++ b ∷ [])
-set_sets old at [] b n e = ap (λ i. set old i b) (e ∙ add-zero at)
-set_sets old at (c ∷ bs) b n e = set_sets (set old at c) (suc at) bs b n (omega arith)

@@ -1,9 +1,13 @@
 -- The test that each entry is below q, and the fact that it decides.
-use Rattle.std.proofs.Common.{◌≡◌, ℕ, zero, suc, ◌<◌, ◌≤◌, true, false, ltb, List, [], ◌∷◌, length, get_or, take, drop, refl, not-suc-le-zero, arith}
-use Rattle.std.specs.List.{AllByRecursion}
-use Rattle.std.proofs.ByRecursion.{All-get_or, All-from_get_or, All-take, All-drop}
-use Rattle.std.proofs.lemmas.Bool.{and_from, and_parts, ltb-true, lt-ltb, le-ltb, and_left, and_right}
+use Rattle.std.proofs.Common.{◌≡◌, ℕ, zero, suc, ◌<◌, ◌&&◌, true, nat_lt, ltb, List, [], ◌∷◌, length, get_or, take, drop, ap, refl}
+use Rattle.std.specs.List.{AllByRecursion, list_all}
+use Rattle.std.proofs.ByRecursion.{All-get_or, All-take, All-drop}
+use Rattle.std.proofs.lemmas.Bool.{and_from, and_parts, ltb-true, lt-ltb}
 use Rattle.vectors.specs.Residues.{below}
+
+pub below_is_all : (q : ℕ) (xs : List ℕ) → below q xs ≡ list_all (λ x. nat_lt x q) xs
+below_is_all q [] = refl
+below_is_all q (x ∷ xs) = ap (λ b. nat_lt x q && b) (below_is_all q xs)
 
 pub all_from_below : (q : ℕ) (xs : List ℕ) → below q xs ≡ true → AllByRecursion (λ x. x < q) xs
 all_from_below q [] h = tt
@@ -27,11 +31,3 @@ get_or-residue q (x ∷ xs) (suc i) z h = get_or-residue q xs i z h.1
 pub below-part : (q a n : ℕ) (xs : List ℕ) → below q xs ≡ true → below q (take n (drop a xs)) ≡ true
 below-part q a n xs h =
     below_from_all q (take n (drop a xs)) (All-take (λ x. x < q) n (drop a xs) (All-drop (λ x. x < q) a xs (all_from_below q xs h)))
-
-pub below_from_get_or : (q : ℕ) (xs : List ℕ) → ((i : ℕ) → i < length xs → get_or xs i 0 < q) → below q xs ≡ true
-below_from_get_or q xs h = below_from_all q xs (All-from_get_or (λ x. x < q) xs 0 h)
-
-pub not_below_from_get_or : (q : ℕ) (xs : List ℕ) (i : ℕ) → i < length xs → q ≤ get_or xs i 0 → below q xs ≡ false
-not_below_from_get_or q [] i l h = absurd (not-suc-le-zero l)
-not_below_from_get_or q (x ∷ xs) zero l h = and_left (ltb x q) (below q xs) (le-ltb x q h)
-not_below_from_get_or q (x ∷ xs) (suc i) l h = and_right (ltb x q) (below q xs) (not_below_from_get_or q xs i (omega arith) h)

@@ -1,6 +1,7 @@
 -- Numbers as two bytes each: writing and reading undo each other, and a list written number by number.
-use Rattle.std.proofs.Common.{◌≡◌, ℕ, zero, suc, ◌+◌, ◌*◌, ◌/◌, ◌%◌, ◌<◌, ◌≤◌, List, [], ◌∷◌, ◌++◌, length, get_or, take, set, sym, refl, ap, ◌∙◌, ap₂, arith}
+use Rattle.std.proofs.Common.{◌≡◌, ℕ, zero, suc, ◌+◌, ◌*◌, ◌/◌, ◌%◌, ◌<◌, ◌≤◌, List, [], ◌∷◌, ◌++◌, length, map, get_or, take, set, sym, refl, ap, ◌∙◌, ap₂, arith}
 use Rattle.std.specs.List.{AllByRecursion}
+use Rattle.std.specs.Simd.{first_chunks}
 use Rattle.std.proofs.lemmas.List.{length-take-le, take_more}
 use Rattle.vectors.specs.Over.{over}
 use Rattle.vectors.specs.Words.{bytes, words}
@@ -48,21 +49,16 @@ bytes-words (suc n) (x ∷ y ∷ bs) e (hx, (hy, h)) =
     let rest : bytes (words bs) ≡ bs = bytes-words n bs (omega arith) h in
     cc
 
+-- the numbers, pair by pair
+pub words_by_pairs : (bs : List ℕ) → words bs ≡ map (λ pair. get_or pair 0 0 * 256 + get_or pair 1 0) (first_chunks 2 (length bs / 2) bs)
+words_by_pairs [] = refl
+words_by_pairs (x ∷ []) = refl
+words_by_pairs (x ∷ y ∷ bs) =
+    let n : length (x ∷ y ∷ bs) / 2 ≡ suc (length bs / 2) = omega arith in
+    ap (λ xs. (x * 256 + y) ∷ xs) (words_by_pairs bs) ∙ ap (λ m. map (λ pair. get_or pair 0 0 * 256 + get_or pair 1 0) (first_chunks 2 m (x ∷ y ∷ bs))) (sym n)
+
 pub length-words : (n : ℕ) (bs : List ℕ) → length bs ≡ 2 * n → length (words bs) ≡ n
 length-words n [] e = omega arith
 length-words n (x ∷ []) e = absurd (omega arith)
 length-words zero (x ∷ y ∷ bs) e = absurd (omega arith)
 length-words (suc n) (x ∷ y ∷ bs) e = ap suc (length-words n bs (omega arith))
-
-pub get_d_words : (n : ℕ) (bs : List ℕ) (i : ℕ) → length bs ≡ 2 * n → i < n → get_or (words bs) i 0 ≡ get_or bs (2 * i) 0 * 256 + get_or bs (2 * i + 1) 0
-get_d_words n [] i e l = absurd (omega arith)
-get_d_words n (x ∷ []) i e l = absurd (omega arith)
-get_d_words n (x ∷ y ∷ bs) zero e l = refl
-get_d_words zero (x ∷ y ∷ bs) (suc i) e l = absurd (omega arith)
-get_d_words (suc n) (x ∷ y ∷ bs) (suc i) e l =
-    let here = get_d_words n bs i (omega arith) (omega arith) in
-    let even : 2 * suc i ≡ suc (suc (2 * i)) = omega arith in
-    let odd : 2 * suc i + 1 ≡ suc (suc (2 * i + 1)) = omega arith in
-    let high = ap (λ k. get_or (x ∷ y ∷ bs) k 0) even in
-    let low = ap (λ k. get_or (x ∷ y ∷ bs) k 0) odd in
-    cc

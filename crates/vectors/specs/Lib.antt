@@ -5,3 +5,4 @@ pub mod Residues
 pub mod Layers
 pub mod Words
 pub mod Over
+pub mod Parts

@@ -2,7 +2,9 @@
 #![tactic(auto)]
 
 pub mod encoding;
+pub mod layout;
 pub mod modular;
+pub mod part;
 pub mod parts;
 pub mod permuting;
 pub mod testing;

@@ -6,12 +6,7 @@ ghost use Rattle.vectors.specs.Residues.{below, plus, minus};
 pub fn all_below(values: &[u16], bound: usize) -> bool
     ensures { result ≡ below bound values.now }
 {
-    for value in values {
-        if *value as usize >= bound {
-            return false;
-        }
-    }
-    true
+    values.iter().all(|value| (*value as usize) < bound)
 }
 
 // Adds `other` to `sum`, entry by entry modulo q.
@@ -19,8 +14,9 @@ pub fn add(sum: &mut [u16], other: &[u16], q: u16)
     requires { (length sum.old ≡ length other.now) × ((below q sum.old ≡ true) × (below q other.now ≡ true)) }
     ensures { sum.new ≡ plus q sum.old other.now }
 {
-    for i in 0..sum.len() {
-        sum[i] = sum_below(sum[i], other[i], q);
+    // written by place: of entries written through a zip of iter_mut a proof learns nothing
+    for (i, y) in other.iter().enumerate() {
+        sum[i] = sum_below(sum[i], *y, q);
     }
 }
 
@@ -29,8 +25,8 @@ pub fn subtract(difference: &mut [u16], other: &[u16], q: u16)
     requires { (length difference.old ≡ length other.now) × ((below q difference.old ≡ true) × (below q other.now ≡ true)) }
     ensures { difference.new ≡ minus q difference.old other.now }
 {
-    for i in 0..difference.len() {
-        difference[i] = difference_below(difference[i], other[i], q);
+    for (i, y) in other.iter().enumerate() {
+        difference[i] = difference_below(difference[i], *y, q);
     }
 }
 

@@ -3,6 +3,9 @@ ghost use Rattle.std.specs.Prelude.{◌≡◌, ◌*◌, ◌≤◌, length};
 ghost use Rattle.vectors.specs.Permutations.{permutes};
 ghost use Rattle.vectors.specs.Layers.{first_failing};
 
+use crate::layout::Layout;
+use std::ops::Range;
+
 // Says whether the positions are each of 0 to N - 1 once, where N is their number.
 pub fn is_permutation(positions: &[u16]) -> bool
     requires { length positions.now ≤ 768 }
@@ -20,13 +23,14 @@ pub fn is_permutation(positions: &[u16]) -> bool
 }
 
 // The first layer, counted from 0, that is no permutation.
-pub fn first_unpermuted(positions: &[u16], layer_len: usize, layer_count: usize) -> Option<usize>
-    requires { (length positions.now ≡ layer_count * layer_len) × (layer_len ≤ 768) }
-    ensures { result ≡ first_failing (λ j. permutes layer_len) layer_len 0 layer_count positions.now }
+pub fn first_unpermuted(positions: &[u16], layout: Layout) -> Option<usize>
+    requires { (length positions.now ≡ layout.layer_count * layout.layer_len) × (layout.layer_len ≤ 768) }
+    ensures { result ≡ first_failing (λ j. permutes layout.layer_len) layout.layer_len 0 layout.layer_count positions.now }
 {
-    for j in 0..layer_count {
-        let from = j * layer_len;
-        if !is_permutation(&positions[from..from + layer_len]) {
+    // by the layer's number, which is what is given back; `chunks_exact` refuses empty layers
+    for j in 0..layout.layer_count {
+        let Range { start, end } = layout.places(j);
+        if !is_permutation(&positions[start..end]) {
             return Some(j);
         }
     }

@@ -1,15 +1,15 @@
-use Rattle.std.proofs.Common.{sym, arith}
-use Rattle.vectors.specs.Words.{words}
-use Rattle.answer_checks.proofs.Words.{length-words}
-use Rattle.answer_checks.proofs.Residues.{first_above_none, first_above_some}
+use Rattle.std.proofs.Common.{rules, ◌≡◌, ◌+◌, ◌*◌, ap, ◌∙◌}
+use Rattle.std.specs.List.{position}
+use Rattle.std.specs.Option.{option_map}
+use Rattle.std.proofs.lemmas.Iterator.{YieldsList-from_slice}
+use Rattle.std.proofs.lemmas.Iterator.Search.{position_from_yields_List}
+use borrow.Author.Tests.{tests}
+use Rattle.answer_checks.proofs.Residues.{pair_above, first_above_is}
 use Rattle.answer_checks.proofs.first_above.Goals as goal
-
-pub returns-then-word-q : goal.returns-then-word-q
-returns-then-word-q c =
-    let n = length-words c.args.content.now in
-    sym (first_above_some c.args.q c.args.offset (words c.args.content.now) c.loop-i.i (omega arith) c.loop-i.invariant (omega arith))
 
 pub returns : goal.returns
 returns c =
-    let n = length-words c.args.content.now in
-    sym (first_above_none c.args.q c.args.offset (words c.args.content.now) (λ k l. c.loop-i.invariant k (omega arith)))
+    let p : c.position.result ≡ position (pair_above c.args.q) c.as_chunks.result.0.now = position_from_yields_List (pair_above c.args.q) _ _ _ c.position.ensures.ran (YieldsList-from_slice c.as_chunks.result.0.now (cc)) (λ x b q k. search (rules, tests)) in
+    let m : c.map.result ≡ option_map (λ i. c.args.offset + 2 * i) c.position.result = search rules in
+    m ∙ ap (option_map (λ i. c.args.offset + 2 * i)) (p ∙ ap (position (pair_above c.args.q)) c.as_chunks.ensures.front)
+    ∙ first_above_is c.args.q c.args.offset c.args.content.now

@@ -1,51 +1,82 @@
-use Rattle.std.proofs.Common.{length}
-use Rattle.masks.specs.Mask.{mask_of}
-use Rattle.console_moves.proofs.Asked.{layers-sum_asks, free-sum_asks, layers-sum_residues, free-sum_residues, first_asks, second_asks, third_asks}
-use Rattle.console_moves.proofs.Made.{first-written, second-written, third-written}
+use Rattle.std.proofs.Common.{◌≡◌, ◌*◌, length, sym, ap, ap₂, ◌∙◌, subst, arith}
+use Rattle.vectors.specs.Residues.{plus}
+use Rattle.vectors.proofs.Sums.{plus_comm}
+use Rattle.masks.specs.Held.{mask_in}
+use Rattle.messages.specs.declared.challenge.Challenge.{Challenge}
+use Rattle.messages.specs.Contents.{answer_written}
+use Rattle.messages.specs.Writing.{Wrote}
+use Rattle.moves.specs.Moves.{answer}
+use Rattle.console_moves.proofs.Asked.{addable, key_from_split, layers_from_split, free_from_split, few, permutations_within, string_long, long_fits}
 use Rattle.console_moves.proofs.answering.write_answer.Goals as goal
 
-pub write_first-size-requires : goal.write_first-size-requires
-write_first-size-requires g c =
-    let asks =
-    first_asks (g.R.Relation.meaning c.args.relation.now) (g.R.Relation.laws c.args.relation.now) (g.S.Scheme.meaning c.args.scheme.now) (mask_of c.args.permutations.now c.args.layers.now c.args.free.now c.args.coins.now) c.requires.formed c.width.result c.width.ensures (g.S.Scheme.laws c.args.scheme.now) (length c.args.out.now) c.args.asked c.args.key.now (length c.split_at_mut-key_layers.result.0.now) (length c.split_at_mut-key_free.result.0.now)
-    c.layer_len-layer_len.result c.layer_count-layer_count.result c.split.new.layers c.strings.result.1.now c.strings.result.2.now c.in-One.is c.in_ok-split.ensures.0
-    c.layer_len-layer_len.ensures c.layer_count-layer_count.ensures c.in_ok-split.ensures.1.0 c.strings.ensures.second c.strings.ensures.third c.requires.out_long in
-    record { room = asks.0; short = asks.1; whole = asks.2 }
+pub write_first-size-requires-clause-short : goal.write_first-size-requires-clause-short
+write_first-size-requires-clause-short g c =
+    let relation = g.R.Relation.meaning c.args.relation.now in
+    let laws = g.R.Relation.laws c.args.relation.now in
+    let scheme = g.S.Scheme.meaning c.args.scheme.now in
+    let high = (g.S.Scheme.laws c.args.scheme.now).width_high in
+    let size = c.requires.formed.permutations.size in
+    let bound = few relation laws in
+    let second : length c.coin_strings.result.1.now ≡ scheme.width = rw (c.coin_strings.ensures.second, c.width.ensures) (string_long relation scheme.width (mask_in c.args.mask) c.requires.formed 1 (omega arith)) in
+    let third : length c.coin_strings.result.2.now ≡ scheme.width = rw (c.coin_strings.ensures.third, c.width.ensures) (string_long relation scheme.width (mask_in c.args.mask) c.requires.formed 2 (omega arith)) in
+    (omega arith, (omega arith, omega arith))
+
+pub write_first-size-requires-clause-whole : goal.write_first-size-requires-clause-whole
+write_first-size-requires-clause-whole g c =
+    let relation = g.R.Relation.meaning c.args.relation.now in
+    let laws = g.R.Relation.laws c.args.relation.now in
+    let formed = c.requires.formed in
+    let own = layers_from_split relation laws c.args.key.now _ _ c.in_ok-split.ensures.0 in
+    rw (c.in_ok-split.ensures.1.0, c.layout-layout.ensures)
+    (formed.permutations.size, (own.0, (formed.layers.0, permutations_within relation (g.S.Scheme.meaning c.args.scheme.now).width (mask_in c.args.mask) formed)))
 
 pub add-requires : goal.add-requires
 add-requires g c =
-    layers-sum_asks (g.R.Relation.meaning c.args.relation.now) (g.R.Relation.laws c.args.relation.now) c.args.key.now (length c.split_at_mut-key_layers.result.0.now) (length c.split_at_mut-key_free.result.0.now) c.in_ok-split.ensures.0 c.modulus.result c.modulus.ensures c.args.layers.now c.split.new.layers c.requires.formed.layers c.in_ok-split.ensures.1.0
+    let relation = g.R.Relation.meaning c.args.relation.now in
+    let own = layers_from_split relation (g.R.Relation.laws c.args.relation.now) c.args.key.now _ _ c.in_ok-split.ensures.0 in
+    rw (c.in_ok-split.ensures.1.0, c.modulus.ensures)
+    (addable relation.q (relation.layer_count * relation.layer_len) (relation.split_layers c.args.key.now) c.args.mask.layers.now own c.requires.formed.layers)
 
 pub add-requires-in-Two : goal.add-requires-in-Two
 add-requires-in-Two g c =
-    free-sum_asks (g.R.Relation.meaning c.args.relation.now) (g.R.Relation.laws c.args.relation.now) c.args.key.now (length c.split_at_mut-key_layers.result.0.now) (length c.split_at_mut-key_free.result.0.now) c.in_ok-split.ensures.0 c.modulus-in-Two.result c.modulus-in-Two.ensures c.args.free.now c.split.new.free c.requires.formed.free c.in_ok-split.ensures.1.1
+    let relation = g.R.Relation.meaning c.args.relation.now in
+    let own = free_from_split relation (g.R.Relation.laws c.args.relation.now) c.args.key.now _ _ c.in_ok-split.ensures.0 in
+    rw (c.in_ok-split.ensures.1.1, c.modulus-in-Two.ensures)
+    (addable relation.q relation.free_len (relation.split_free c.args.key.now) c.args.mask.free.now own c.requires.formed.free)
 
 pub write_second-size-requires : goal.write_second-size-requires
 write_second-size-requires g c =
-    second_asks (g.R.Relation.meaning c.args.relation.now) (g.R.Relation.laws c.args.relation.now) (g.S.Scheme.meaning c.args.scheme.now) (mask_of c.args.permutations.now c.args.layers.now c.args.free.now c.args.coins.now) c.requires.formed c.width.result c.width.ensures (g.S.Scheme.laws c.args.scheme.now) (length c.args.out.now) c.args.asked
-    c.add.new.sum c.add-in-Two.new.sum c.strings.result.0.now c.strings.result.2.now c.in-Two.is
-    (layers-sum_residues (g.R.Relation.meaning c.args.relation.now) (g.R.Relation.laws c.args.relation.now) c.args.key.now (length c.split_at_mut-key_layers.result.0.now) (length c.split_at_mut-key_free.result.0.now) c.in_ok-split.ensures.0 c.modulus.result c.modulus.ensures c.args.layers.now c.split.new.layers c.add.new.sum c.requires.formed.layers c.in_ok-split.ensures.1.0 c.add.ensures)
-    (free-sum_residues (g.R.Relation.meaning c.args.relation.now) (g.R.Relation.laws c.args.relation.now) c.args.key.now (length c.split_at_mut-key_layers.result.0.now) (length c.split_at_mut-key_free.result.0.now) c.in_ok-split.ensures.0 c.modulus-in-Two.result c.modulus-in-Two.ensures c.args.free.now c.split.new.free c.add-in-Two.new.sum c.requires.formed.free c.in_ok-split.ensures.1.1 c.add-in-Two.ensures)
-    c.strings.ensures.first c.strings.ensures.third c.requires.out_long
+    let relation = g.R.Relation.meaning c.args.relation.now in
+    let laws = g.R.Relation.laws c.args.relation.now in
+    let scheme = g.S.Scheme.meaning c.args.scheme.now in
+    let formed = c.requires.formed in
+    let layers = layers_from_split relation laws c.args.key.now _ _ c.in_ok-split.ensures.0 in
+    let free = free_from_split relation laws c.args.key.now _ _ c.in_ok-split.ensures.0 in
+    long_fits relation laws scheme (g.S.Scheme.laws c.args.scheme.now) _ _ _ _ _ _ formed.permutations.size
+    (omega (arith, ap length c.in_ok-split.ensures.1.0, layers.0)) (omega (arith, ap length c.in_ok-split.ensures.1.1, free.0))
+    (rw (c.coin_strings.ensures.first, c.width.ensures) (string_long relation scheme.width (mask_in c.args.mask) formed 0 (omega arith)))
+    (rw (c.coin_strings.ensures.third, c.width.ensures) (string_long relation scheme.width (mask_in c.args.mask) formed 2 (omega arith)))
+    (rw c.in-Two.is at c.requires.out_long)
 
 pub write_third-size-requires : goal.write_third-size-requires
 write_third-size-requires g c =
-    third_asks (g.R.Relation.meaning c.args.relation.now) (g.R.Relation.laws c.args.relation.now) (g.S.Scheme.meaning c.args.scheme.now) (mask_of c.args.permutations.now c.args.layers.now c.args.free.now c.args.coins.now) c.requires.formed c.width.result c.width.ensures (g.S.Scheme.laws c.args.scheme.now) (length c.args.out.now) c.args.asked c.strings.result.0.now c.strings.result.1.now c.in-Three.is
-    c.strings.ensures.first c.strings.ensures.second c.requires.out_long
-
-pub returns-in-One : goal.returns-in-One
-returns-in-One g c =
-    first-written (g.R.Relation.meaning c.args.relation.now) (g.S.Scheme.meaning c.args.scheme.now) (mask_of c.args.permutations.now c.args.layers.now c.args.free.now c.args.coins.now) c.args.key.now (length c.split_at_mut-key_layers.result.0.now) (length c.split_at_mut-key_free.result.0.now) c.in_ok-split.ensures.0 c.width.result c.width.ensures c.args.asked c.args.out.now c.write_first-size.new.out c.write_first-size.result
-    c.layer_len-layer_len.result c.layer_count-layer_count.result c.split.new.layers c.strings.result.1.now c.strings.result.2.now c.in-One.is c.layer_len-layer_len.ensures c.layer_count-layer_count.ensures
-    c.in_ok-split.ensures.1.0 c.strings.ensures.second c.strings.ensures.third c.write_first-size.ensures
+    let relation = g.R.Relation.meaning c.args.relation.now in
+    let laws = g.R.Relation.laws c.args.relation.now in
+    let scheme = g.S.Scheme.meaning c.args.scheme.now in
+    let formed = c.requires.formed in
+    long_fits relation laws scheme (g.S.Scheme.laws c.args.scheme.now) _ _ _ _ _ _ formed.permutations.size formed.layers.0 formed.free.0
+    (rw (c.coin_strings.ensures.first, c.width.ensures) (string_long relation scheme.width (mask_in c.args.mask) formed 0 (omega arith)))
+    (rw (c.coin_strings.ensures.second, c.width.ensures) (string_long relation scheme.width (mask_in c.args.mask) formed 1 (omega arith)))
+    (rw c.in-Three.is at c.requires.out_long)
 
 pub returns-in-Two : goal.returns-in-Two
 returns-in-Two g c =
-    second-written (g.R.Relation.meaning c.args.relation.now) (g.S.Scheme.meaning c.args.scheme.now) (mask_of c.args.permutations.now c.args.layers.now c.args.free.now c.args.coins.now) c.args.key.now (length c.split_at_mut-key_layers.result.0.now) (length c.split_at_mut-key_free.result.0.now) c.in_ok-split.ensures.0 c.width.result c.width.ensures c.args.asked c.args.out.now c.write_second-size.new.out c.write_second-size.result
-    c.modulus.result c.modulus-in-Two.result c.split.new.layers c.split.new.free c.add.new.sum c.add-in-Two.new.sum c.strings.result.0.now c.strings.result.2.now c.in-Two.is
-    c.modulus.ensures c.modulus-in-Two.ensures c.in_ok-split.ensures.1 c.add.ensures c.add-in-Two.ensures c.strings.ensures.first c.strings.ensures.third c.write_second-size.ensures
-
-pub returns-in-Three : goal.returns-in-Three
-returns-in-Three g c =
-    third-written (g.R.Relation.meaning c.args.relation.now) (g.S.Scheme.meaning c.args.scheme.now) (mask_of c.args.permutations.now c.args.layers.now c.args.free.now c.args.coins.now) c.args.key.now (length c.split_at_mut-key_layers.result.0.now) (length c.split_at_mut-key_free.result.0.now) c.in_ok-split.ensures.0 c.width.result c.width.ensures c.args.asked c.args.out.now c.write_third-size.new.out c.write_third-size.result
-    c.strings.result.0.now c.strings.result.1.now c.in-Three.is c.strings.ensures.first c.strings.ensures.second c.write_third-size.ensures
+    let relation = g.R.Relation.meaning c.args.relation.now in
+    let key = c.args.key.now in
+    let masked : c.add.new.sum ≡ plus relation.q c.args.mask.layers.now (relation.split_layers key) =
+    c.add.ensures ∙ ap₂ (λ q part. plus q part c.args.mask.layers.now) c.modulus.ensures c.in_ok-split.ensures.1.0 ∙ plus_comm relation.q (relation.split_layers key) c.args.mask.layers.now in
+    let masked_free : c.add-in-Two.new.sum ≡ plus relation.q c.args.mask.free.now (relation.split_free key) =
+    c.add-in-Two.ensures ∙ ap₂ (λ q part. plus q part c.args.mask.free.now) c.modulus-in-Two.ensures c.in_ok-split.ensures.1.1 ∙ plus_comm relation.q (relation.split_free key) c.args.mask.free.now in
+    let wrote = rw (masked, masked_free, c.coin_strings.ensures.first, c.coin_strings.ensures.third, c.width.ensures) at c.write_second-size.ensures in
+    let written = λ (asked : Challenge). Wrote c.args.out.now (answer_written (answer relation (g.S.Scheme.meaning c.args.scheme.now) key (mask_in c.args.mask) asked)) c.write_second-size.new.out c.write_second-size.result in
+    (key_from_split relation key _ _ c.in_ok-split.ensures.0, subst written (sym c.in-Two.is) wrote)

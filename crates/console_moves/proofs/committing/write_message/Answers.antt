@@ -1,34 +1,27 @@
-use Rattle.std.proofs.Common.{length, arith}
-use Rattle.masks.specs.Mask.{mask_of}
-use Rattle.console_moves.proofs.Asked.{layers-sum_asks, layers-sum_residues}
-use Rattle.console_moves.proofs.Made.{message-written}
-use Rattle.console_moves.proofs.Refused.{key_from_split}
+use Rattle.std.proofs.Common.{◌*◌}
+use Rattle.vectors.proofs.Sums.{plus_comm, plus_residues}
+use Rattle.moves.proofs.Completeness.{modulus_positive}
+use Rattle.console_moves.proofs.Asked.{addable, key_from_split, layers_from_split}
 use Rattle.console_moves.proofs.committing.write_message.Goals as goal
 
 pub add-requires : goal.add-requires
 add-requires g c =
-    layers-sum_asks (g.R.Relation.meaning c.args.relation.now) (g.R.Relation.laws c.args.relation.now) c.args.key.now (length c.split_at_mut-masked.result.0.now) (length c.split_at_mut-key_free.result.0.now) c.in_ok-split.ensures.0 c.modulus.result c.modulus.ensures c.args.layers.now c.split.new.layers
-    c.requires.formed.layers c.in_ok-split.ensures.1.0
+    let relation = g.R.Relation.meaning c.args.relation.now in
+    let own = layers_from_split relation (g.R.Relation.laws c.args.relation.now) c.args.key.now _ _ c.in_ok-split.ensures.0 in
+    rw (c.in_ok-split.ensures.1.0, c.modulus.ensures)
+    (addable relation.q (relation.layer_count * relation.layer_len) (relation.split_layers c.args.key.now) c.args.mask.layers.now own c.requires.formed.layers)
 
-pub commit_masked-requires : goal.commit_masked-requires
-commit_masked-requires g c = (
-  c.requires.formed,
-  (
-    layers-sum_residues (g.R.Relation.meaning c.args.relation.now) (g.R.Relation.laws c.args.relation.now) c.args.key.now (length c.split_at_mut-masked.result.0.now) (length c.split_at_mut-key_free.result.0.now) c.in_ok-split.ensures.0 c.modulus.result c.modulus.ensures c.args.layers.now c.split.new.layers c.add.new.sum
-        c.requires.formed.layers c.in_ok-split.ensures.1.0 c.add.ensures,
-    (c.requires.limit_high, omega (arith, c.requires.out_long)),
-  ),
-)
+pub commit_masked-requires-clause-masked : goal.commit_masked-requires-clause-masked
+commit_masked-requires-clause-masked g c =
+    let relation = g.R.Relation.meaning c.args.relation.now in
+    let laws = g.R.Relation.laws c.args.relation.now in
+    let own = layers_from_split relation laws c.args.key.now _ _ c.in_ok-split.ensures.0 in
+    rw (c.add.ensures, c.in_ok-split.ensures.1.0, c.modulus.ensures)
+    (plus_residues relation.q (relation.layer_count * relation.layer_len) (relation.split_layers c.args.key.now) c.args.mask.layers.now (modulus_positive relation laws) own c.requires.formed.layers)
 
-pub returns : goal.returns
-returns g c = record {
-  outcome = (
-    key_from_split (g.R.Relation.meaning c.args.relation.now) c.args.key.now (length c.split_at_mut-masked.result.0.now) (length c.split_at_mut-key_free.result.0.now) c.in_ok-split.ensures.0,
-    (
-      message-written (g.R.Relation.meaning c.args.relation.now) (g.S.Scheme.meaning c.args.scheme.now) (mask_of c.args.permutations.now c.args.layers.now c.args.free.now c.args.coins.now) c.args.key.now (length c.split_at_mut-masked.result.0.now) (length c.split_at_mut-key_free.result.0.now) c.in_ok-split.ensures.0 c.modulus.result c.split.new.layers c.add.new.sum c.args.out.now c.commit_masked.new.out
-          c.in_ok-size.size c.modulus.ensures c.in_ok-split.ensures.1.0 c.add.ensures c.in_ok-size.ensures.outcome.0,
-      c.in_ok-size.ensures.outcome.1,
-    ),
-  );
-  kept = c.in_ok-size.ensures.kept;
-}
+pub returns-clause-outcome : goal.returns-clause-outcome
+returns-clause-outcome g c =
+    let relation = g.R.Relation.meaning c.args.relation.now in
+    let swapped = plus_comm relation.q (relation.split_layers c.args.key.now) c.args.mask.layers.now in
+    let wrote = rw (c.add.ensures, c.in_ok-split.ensures.1.0, c.modulus.ensures, swapped) at c.commit_masked.ensures.wrote in
+    (key_from_split relation c.args.key.now _ _ c.in_ok-split.ensures.0, (wrote, c.commit_masked.ensures.fresh))

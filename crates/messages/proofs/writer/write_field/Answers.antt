@@ -1,9 +1,9 @@
-use Rattle.std.proofs.Common.{length, refl, arith}
+use Rattle.std.proofs.Common.{sym, arith}
+use Rattle.vectors.specs.Parts.{content}
 use Rattle.messages.proofs.Writing.{field-over}
 use Rattle.messages.proofs.writer.write_field.Goals as goal
 
-pub returns : goal.returns
-returns c = record {
-  value = refl;
-  after = field-over c.args.out.now c.write_head.new.out c.copy_part.new.target c.args.at c.args.tag (length c.args.content.now) c.args.content.now refl (omega arith) c.write_head.ensures c.copy_part.ensures;
-}
+pub returns-clause-after : goal.returns-clause-after
+returns-clause-after c =
+    field-over c.args.out.now c.write_head.new.out c.write.new.out c.args.at c.args.tag c.content_len-size.result (content c.args.part) (sym c.content_len-size.ensures) (omega arith)
+    c.write_head.ensures c.write.ensures

@@ -6,8 +6,8 @@ use Rattle.messages.proofs.writer.write_first.Goals as goal
 
 pub returns : goal.returns
 returns c =
-    let N : ℕ = c.args.layer_len in
-    let K : ℕ = c.args.layer_count in
+    let N : ℕ = c.args.layout.layer_len in
+    let K : ℕ = c.args.layout.layer_count in
     let ps : List ℕ = c.args.positions.now in
     let e = length-permuted-bytes N K ps c.args.key_layers.now c.requires.whole.0 in
     let r = length-permuted-bytes N K ps c.args.mask_layers.now c.requires.whole.0 in

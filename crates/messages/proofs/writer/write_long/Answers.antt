@@ -11,9 +11,9 @@ returns c =
     let f = length_bytes c.args.free.now in
     wrote c.args.out.now (c.args.tag ∷ (c.args.tag + 1) ∷ (c.args.tag + 2) ∷ (c.args.tag + 3) ∷ (c.args.tag + 4) ∷ [])
     (bytes c.args.permutations.now ∷ bytes c.args.layers.now ∷ bytes c.args.free.now ∷ c.args.lower.now ∷ c.args.upper.now ∷ []) c.write_field.new.out c.write_field.result
-    (placed_more c.write_words_field-layers_at.ensures.after
-    (placed_more c.write_words_field-free_at.ensures.after
-    (placed_more c.write_words_field-lower_at.ensures.after
+    (placed_more c.write_field-layers_at.ensures.after
+    (placed_more c.write_field-free_at.ensures.after
+    (placed_more c.write_field-lower_at.ensures.after
     (placed_more c.write_field-upper_at.ensures.after
     (placed_more c.write_field.ensures.after (placed_none c.write_field.new.out c.write_field.result) (omega arith) (omega arith))
     (omega arith) (omega arith)) (omega arith) (omega arith)) (omega arith) (omega arith)) (omega arith) (omega arith))

@@ -1,8 +1,4 @@
-use Rattle.std.proofs.Common.{length, get_or, sym, ap, ◌∙◌, arith}
-use Rattle.std.proofs.lemmas.List.{length-map, take_all}
-use Rattle.vectors.specs.Over.{over}
-use Rattle.vectors.specs.Permutations.{permuted}
-use Rattle.vectors.specs.Words.{bytes}
+use Rattle.std.proofs.Common.{length, sym, arith}
 use Rattle.vectors.proofs.Over.{over_none}
 use Rattle.vectors.proofs.Residues.{get_or-below}
 use Rattle.messages.proofs.Writing.{over-permuted_more}
@@ -18,9 +14,3 @@ pub loop-i-preserved : goal.loop-i-preserved
 loop-i-preserved c =
     over-permuted_more c.args.positions.now c.args.values.now c.loop-i.i c.args.out.now c.loop-i.out c.write_value.new.out c.args.at c.loop-i-test.true c.requires.0
     c.loop-i.invariant c.write_value.ensures
-
-pub returns : goal.returns
-returns c =
-    let n = length-map c.args.positions.now (λ k. get_or c.args.values.now k 0) in
-    c.loop-i.invariant
-    ∙ ap (λ xs. over c.args.out.now c.args.at (bytes xs)) (take_all c.loop-i.i (permuted c.args.positions.now c.args.values.now) (omega arith))

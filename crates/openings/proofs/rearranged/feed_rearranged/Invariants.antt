@@ -6,4 +6,4 @@ use Rattle.openings.proofs.rearranged.feed_rearranged.Given as goal
 abbrev pub invariant-loop-j : goal.invariant-loop-j
 invariant-loop-j g l =
     (g.S.Scheme.meaning l.scheme ≡ g.S.Scheme.meaning l.initial.scheme)
-    × LayersFed l.layer_len l.layer_count (numbers_in l.permutations) l.layers (g.S.Scheme.state l.initial.scheme) l.j (g.S.Scheme.state l.scheme)
+    × LayersFed l.layout.layer_len l.layout.layer_count (numbers_in l.permutations) l.layers (g.S.Scheme.state l.initial.scheme) l.j (g.S.Scheme.state l.scheme)

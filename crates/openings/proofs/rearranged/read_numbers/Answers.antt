@@ -1,6 +1,6 @@
 use Rattle.std.proofs.Common.{length, take, drop, sym, refl, ap, ◌∙◌, rules}
 use Rattle.vectors.proofs.Words.{length_bytes}
-use Rattle.commitment.specs.Messages.{content}
+use Rattle.vectors.specs.Parts.{content}
 use Rattle.openings.specs.Shown.{numbers_in}
 use Rattle.openings.proofs.Reading.{words_piece}
 use Rattle.openings.proofs.rearranged.read_numbers.Goals as goal

@@ -1,17 +1,14 @@
-use Rattle.std.proofs.Common.{◌<◌, ◌≤◌, get_or, pos, nat_abs, sym, ◌∙◌, rules}
+use Rattle.std.proofs.Common.{nat_le, pos, refl, rules}
+use Rattle.std.proofs.lemmas.Bool.{le-leb}
 use Rattle.std.proofs.lemmas.Int.{to_z-of_z}
-use Rattle.short_statement.proofs.Numbers.{sizes-drop_more, sizes-drop_stop, sizes-drop_all}
+use Rattle.std.proofs.lemmas.List.Recursion.{and_is}
+use Rattle.relation_laws.specs.Short.{size, sizes_within}
+use Rattle.short_statement.proofs.Numbers.{size_is}
 use Rattle.short_statement.proofs.entries.all_within.Goals as goal
 
-pub returns-then-unsigned_abs-most : goal.returns-then-unsigned_abs-most
-returns-then-unsigned_abs-most c =
-    let l : c.args.most < nat_abs (get_or c.args.key.now c.loop-number.number-index (pos 0)) = search (rules, to_z-of_z) in
-    sym (c.loop-number.invariant ∙ sizes-drop_stop c.args.most c.args.key.now c.loop-number.number-index c.loop-number-test.true l)
-
-pub loop-number-preserved : goal.loop-number-preserved
-loop-number-preserved c =
-    let l : nat_abs (get_or c.args.key.now c.loop-number.number-index (pos 0)) ≤ c.args.most = search (rules, to_z-of_z) in
-    c.loop-number.invariant ∙ sizes-drop_more c.args.most c.args.key.now c.loop-number.number-index c.loop-number-test.true l
-
 pub returns : goal.returns
-returns c = sym (c.loop-number.invariant ∙ sizes-drop_all c.args.most c.args.key.now c.loop-number.number-index c.loop-number-test.false)
+returns c =
+    let most = c.args.most in
+    and_is (sizes_within most) (λ x. nat_le (size x) most) refl (λ _ _. refl) c.args.key.now (pos 0) c.all.result
+    (λ e i l. rw size_is (le-leb _ most (search (rules, to_z-of_z))))
+    (λ e. search (rules, size_is, to_z-of_z))

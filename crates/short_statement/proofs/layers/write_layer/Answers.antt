@@ -1,6 +1,6 @@
 use Rattle.std.proofs.Common.{length, sym, ap, ◌∙◌, subst, rules}
 use Rattle.std.proofs.lemmas.List.{length-map, take_at}
-use Rattle.relation_laws.specs.Short.{signed_digit, filled}
+use Rattle.relation_laws.specs.Short.{signed_digit}
 use Rattle.relation_laws.proofs.Counts.{Only}
 use Rattle.relation_laws.proofs.Thirds.{units}
 use Rattle.short_statement.proofs.Filling.{only_digits}
@@ -18,8 +18,3 @@ fill_up-requires c =
         ),
       ),
     )
-
-pub returns : goal.returns
-returns c =
-    let long = ap length c.write_digits.ensures ∙ length-map c.args.key.now (signed_digit c.args.q c.args.j) in
-    c.fill_up.ensures ∙ ap (filled c.args.q (length c.args.key.now)) (take_at c.write_digits.new.out _ (length c.args.key.now) long ∙ c.write_digits.ensures)

@@ -1,19 +1,8 @@
 use Rattle.std.proofs.Common.{◌≡◌, ◌+◌, ◌-◌, ◌*◌, get_or, ◌+ℤ◌, sym, ap, ◌∙◌, ap₂, arith, w32, SFits, to_z, of_z, rules}
 use Rattle.std.proofs.lemmas.Int.{to_z-of_z}
 use Rattle.relation_laws.specs.Short.{size, signed}
-use Rattle.short_statement.specs.Sums.{signed_place_sum}
-use Rattle.short_statement.proofs.Places.{place-within, power_before, power_small, signed_place_sum-before, from_last, from_first, size-signed, size-with_doubled}
+use Rattle.short_statement.proofs.Places.{power_before, power_small, signed_place_sum-before, size-signed, size-with_doubled}
 use Rattle.short_statement.proofs.sums.signed_place_sum.Goals as goal
-
-pub offset_bounds-layers-j : goal.offset_bounds-layers-j
-offset_bounds-layers-j c =
-    let w = place-within c.args.layer_count c.args.layer_len c.loop-j.j c.args.i c.loop-j-test.true c.loop-j.auto.j c.requires.1.1.0 in
-    search rules
-
-pub bounds-layers-j : goal.bounds-layers-j
-bounds-layers-j c =
-    let w = place-within c.args.layer_count c.args.layer_len c.loop-j.j c.args.i c.loop-j-test.true c.loop-j.auto.j c.requires.1.1.0 in
-    search rules
 
 pub with_doubled-sum-requires : goal.with_doubled-sum-requires
 with_doubled-sum-requires c =
@@ -25,10 +14,6 @@ with_doubled-sum-requires c =
     let e : size (to_z w32 (of_z w32 c.signed.result)) ≡ size (signed c.args.q x) = ap size (to_z-of_z w32 c.signed.result f ∙ c.signed.ensures) in
     let p = power_before K N j c.args.i c.loop-j-test.true c.loop-j.auto.j in
     omega (arith, e, size-signed c.args.q x (search rules), c.loop-j.invariant.1, p, power_small (K - (j - 1)) (omega arith))
-
-pub loop-j-init : goal.loop-j-init
-loop-j-init c =
-    (sym (from_last (signed_place_sum c.args.q c.args.layer_len c.args.i) c.args.layer_count c.args.layer_len c.args.layers.now), search rules)
 
 pub loop-j-preserved : goal.loop-j-preserved
 loop-j-preserved c =
@@ -53,7 +38,3 @@ loop-j-preserved c =
         power_before K N j c.args.i h l,
       ),
     )
-
-pub returns : goal.returns
-returns c =
-    c.loop-j.invariant.0 ∙ from_first (signed_place_sum c.args.q c.args.layer_len c.args.i) c.args.layer_count c.args.layer_len c.args.layers.now c.loop-j.j c.loop-j-test.false

@@ -1,13 +1,25 @@
-use Rattle.std.proofs.Common.{◌*◌, ◌≤◌, get_or, arith, rules}
-use Rattle.std.proofs.lemmas.Nat.{mul-le}
-use Rattle.statements.proofs.Rows.{dot-drop_more, dot-drop_all}
+use Rattle.std.proofs.Common.{◌≡◌, ℕ, ◌*◌, List, [], ◌∷◌, refl, ap, ◌+◌, ◌∙◌, rules, tests}
+use Rattle.std.specs.List.{zip, sum_by}
+use Rattle.std.proofs.lemmas.List.Sums.{sum_by-cons}
+use Rattle.std.proofs.lemmas.Iterator.{YieldsList-from_slice, YieldsList-from_zip, YieldsList-from_map}
+use Rattle.std.proofs.lemmas.Iterator.Consumers.{sum_by_from_yields_List, YieldsList-at}
+use Rattle.relation_laws.specs.Products.{dot}
 use Rattle.statements.proofs.products.dot.Goals as goal
 
-pub loop-i-preserved : goal.loop-i-preserved
-loop-i-preserved c =
-    let d = dot-drop_more c.args.left.now c.args.right.now c.loop-i.i (omega arith) (omega arith) in
-    let p : get_or c.args.left.now c.loop-i.i 0 * get_or c.args.right.now c.loop-i.i 0 ≤ 65535 * 65535 = mul-le _ _ 65535 65535 (search rules) (search rules) in
-    (omega arith, omega arith)
+abbrev product_of : ℕ × ℕ → ℕ
+product_of p = p.0 * p.1
+
+sum_of_products : (xs ys : List ℕ) → sum_by product_of (zip xs ys) ≡ dot xs ys
+sum_of_products [] ys = refl
+sum_of_products (x ∷ xs) [] = refl
+sum_of_products (x ∷ xs) (y ∷ ys) = sum_by-cons product_of (x, y) (zip xs ys) ∙ ap (λ n. x * y + n) (sum_of_products xs ys)
 
 pub returns : goal.returns
-returns c = omega (arith, c.loop-i.invariant, dot-drop_all c.args.left.now c.args.right.now c.loop-i.i (omega arith))
+returns c =
+    let xs = c.args.left.now in
+    let ys = c.args.right.now in
+    sum_by_from_yields_List product_of (zip xs ys) c.map.result c.sum.result c.sum.ensures.ran
+    (YieldsList-from_map _ product_of
+    (YieldsList-at c.map.ensures.source (YieldsList-from_zip (YieldsList-at c.zip-pairs.ensures.first (YieldsList-from_slice xs cc)) (YieldsList-from_slice ys c.zip-pairs.ensures.second.0)))
+    c.map.ensures.closure (λ x r q k. search (rules, tests)))
+    ∙ sum_of_products xs ys

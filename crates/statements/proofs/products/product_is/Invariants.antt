@@ -1,5 +1,5 @@
 use Rattle.std.proofs.Common.{◌≡◌, ℕ, ◌<◌, get_or}
-use Rattle.statements.proofs.Rows.{entry}
+use Rattle.statements.specs.Products.{entry}
 use Rattle.statements.proofs.products.product_is.Given as goal
 
 abbrev pub invariant-loop-i : goal.invariant-loop-i

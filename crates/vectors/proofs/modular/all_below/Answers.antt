@@ -1,9 +1,10 @@
-use Rattle.std.proofs.Common.{sym, arith}
-use Rattle.vectors.proofs.Residues.{below_from_get_or, not_below_from_get_or}
+use Rattle.std.proofs.Common.{nat_lt, sym, ◌∙◌, rules, tests}
+use Rattle.std.proofs.lemmas.Iterator.{YieldsList-from_slice}
+use Rattle.std.proofs.lemmas.Iterator.Search.{all_from_yields_List}
+use Rattle.vectors.proofs.Residues.{below_is_all}
 use Rattle.vectors.proofs.modular.all_below.Goals as goal
 
-pub returns-then-value-bound : goal.returns-then-value-bound
-returns-then-value-bound c = sym (not_below_from_get_or c.args.bound c.args.values.now c.loop-value.value-index (omega arith) (omega arith))
-
 pub returns : goal.returns
-returns c = sym (below_from_get_or c.args.bound c.args.values.now (λ k h. c.loop-value.invariant k (omega arith)))
+returns c =
+    all_from_yields_List (λ x. nat_lt x c.args.bound) _ _ c.all.result c.all.ensures.ran (YieldsList-from_slice c.args.values.now cc) (λ x b q k. search (rules, tests))
+    ∙ sym (below_is_all c.args.bound c.args.values.now)

@@ -1,8 +1,9 @@
-use Rattle.std.proofs.Common.{arith}
-use Rattle.vectors.proofs.Over.{over_from_get_or}
+use Rattle.std.proofs.Common.{length, ap, ◌∙◌, arith}
+use Rattle.vectors.specs.Over.{over}
+use Rattle.vectors.proofs.Over.{over-part}
 use Rattle.vectors.proofs.parts.copy_part.Goals as goal
 
 pub returns : goal.returns
 returns g c =
-    over_from_get_or c.args.target.now c.args.at c.args.part.now c.requires c.loop-i.target c.loop-i.auto.target
-    c.loop-i.invariant.0 (λ k d l. c.loop-i.invariant.1 k d (omega arith)) (λ k d l. c.loop-i.invariant.2 k d (omega arith))
+    let after = c.copy_from_slice.ensures.after in
+    over-part c.args.at _ c.args.target.now _ (omega (arith, ap length after)) ∙ ap (over c.args.target.now c.args.at) after

@@ -5,5 +5,5 @@ use Rattle.vectors.proofs.testing.first_unpermuted.Given as goal
 
 abbrev pub invariant-loop-j : goal.invariant-loop-j
 invariant-loop-j l =
-    first_failing (λ j. permutes l.layer_len) l.layer_len l.j (l.layer_count - l.j) l.positions
-    ≡ first_failing (λ j. permutes l.layer_len) l.layer_len 0 l.layer_count l.positions
+    first_failing (λ j. permutes l.layout.layer_len) l.layout.layer_len l.j (l.layout.layer_count - l.j) l.positions
+    ≡ first_failing (λ j. permutes l.layout.layer_len) l.layout.layer_len 0 l.layout.layer_count l.positions

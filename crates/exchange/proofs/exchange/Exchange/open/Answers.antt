@@ -2,8 +2,8 @@ use Rattle.std.proofs.Common.{◌≡◌, [], length, get_or, arith, rules}
 use Rattle.exchange.proofs.Rows.{row_suffices}
 use Rattle.exchange.proofs.exchange.Exchange.open.Goals as goal
 
-pub write_row-requires : goal.write_row-requires
-write_row-requires g c =
+pub copy_three-requires : goal.copy_three-requires
+copy_three-requires g c =
     let read = c.in_ok-commitments.commitments in
     let wide = c.width.ensures in
     let laws = g.S.Scheme.laws c.args.self.now.scheme in

@@ -1,4 +1,4 @@
-use Rattle.std.proofs.Common.{◌≡◌, ℕ, ◌-◌, ◌≤◌, ◌++◌, length, take, replicate, ap, ◌∙◌, ap₂, arith}
+use Rattle.std.proofs.Common.{◌≡◌, ℕ, ◌-◌, ◌≤◌, ◌++◌, length, take, replicate, ap, ◌∙◌, ap₂, arith, rules}
 use Rattle.std.proofs.lemmas.List.{take_all, take-replicate}
 use Rattle.std.proofs.lemmas.Bool.Decides.{nat_tests}
 use Rattle.schemes.specs.Labels.{labelled, fitting}
@@ -11,14 +11,15 @@ returns g c =
     let old = g.S.Scheme.meaning c.args.below in
     let new = g.S.Scheme.meaning c.feed.new.self in
     let label = c.args.label.now in
+    let held : c.in_ok-text.text.items ≡ label = search rules in
+    let within : length label ≤ 16 = search rules in
     let narrow : old.width ≤ 128 = (g.S.Scheme.laws c.args.below).width_high in
-    let width : c.width-width.result - 0 ≡ old.width = omega arith in
-    let coins : take (c.width-width.result - 0) (replicate {A = ℕ} 128 0) ≡ replicate old.width 0 =
+    let width : c.width-width.result ≡ old.width = c.width-width.ensures in
+    let coins : take c.width-width.result (replicate {A = ℕ} 128 0) ≡ replicate old.width 0 =
     ap (λ n. take n (replicate 128 0)) width ∙ take-replicate old.width 128 0 narrow in
     let same : new ≡ old = fed.kept ∙ started.kept in
     let short : length label ≤ old.limit = omega arith in
-    let text : fitting c.new.result new ≡ label =
-    ap₂ (λ m l. take m.limit l) same c.new.ensures ∙ take_all old.limit label short in (
+    let text : fitting c.in_ok-text.text.items new ≡ label = ap₂ (λ m l. take m.limit l) same held ∙ take_all old.limit label short in (
       grind (arith, nat_tests),
       (
         ap₂ labelled text same,

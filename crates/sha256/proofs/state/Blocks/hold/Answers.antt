@@ -1,18 +1,6 @@
-use Rattle.std.proofs.Common.{◌+◌, ◌≤◌, length, ◌∙◌, arith}
-use Rattle.sha256.proofs.Chains.{length_held, held_part, held_whole}
+use Rattle.std.proofs.Common.{◌+◌, ◌≤◌, length, arith}
+use Rattle.sha256.proofs.Chains.{held_part, held_whole}
 use Rattle.sha256.proofs.state.Blocks.hold.Goals as goal
-
-pub invariant_of-self-else-end-eq64 : goal.invariant_of-self-else-end-eq64
-invariant_of-self-else-end-eq64 c =
-    let s = c.args.self.now in
-    let fits : s.filled + length c.args.bytes.now ≤ length s.held = omega arith in
-    record {
-      sizes = (
-        s.sizes.0,
-        length_held s.held c.args.bytes.now _ s.filled fits c.copy_from_slice.ensures.after ∙ s.sizes.1,
-        omega arith,
-      );
-    }
 
 pub returns-then-end-eq64 : goal.returns-then-end-eq64
 returns-then-end-eq64 c =
@@ -21,7 +9,7 @@ returns-then-end-eq64 c =
     record {
       hash = λ m.
           held_whole s.held c.args.bytes.now _ s.filled fits c.copy_from_slice.ensures.after s.hash _ m
-          s.sizes.1 c.if-end-eq64.true c.compress-hash.ensures;
+          s.sizes.1 c.if-end-eq64.true c.compress-self.ensures;
       filled = omega arith;
     }
 

@@ -1,11 +1,7 @@
-use Rattle.std.proofs.Common.{◌+◌, ◌%◌, ◌++◌, length, ap, ◌∙◌, rules}
-use Rattle.std.proofs.lemmas.List.{places}
+use Rattle.std.proofs.Common.{◌+◌, ◌%◌, ◌++◌, length, ap, ◌∙◌}
 use Rattle.sha256.specs.State.{hash_after}
 use Rattle.sha256.proofs.Paddings.{made_is}
 use Rattle.sha256.proofs.state.Blocks.pad.Goals as goal
-
-pub slice_bounds-absorb-end : goal.slice_bounds-absorb-end
-slice_bounds-absorb-end c = search (rules, places)
 
 pub returns : goal.returns
 returns c =

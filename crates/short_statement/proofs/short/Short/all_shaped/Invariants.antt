@@ -5,4 +5,4 @@ use Rattle.statements.specs.Given.{statement}
 use Rattle.short_statement.proofs.short.Short.all_shaped.Given as goal
 
 abbrev pub invariant-loop-j : goal.invariant-loop-j
-invariant-loop-j l = shapes (short (statement l.self.given)) l.j l.layers ≡ true
+invariant-loop-j l = shapes (short (statement l.self.checked.given)) l.j l.layers ≡ true
