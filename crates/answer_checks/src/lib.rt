@@ -56,8 +56,12 @@ fn fields_above(one: Field, two: Field, q: u16) -> Option<usize>
     requires { (Placeable one) × (Placeable two) }
     ensures { result ≡ or_else (field_above q one.entry) (field_above q two.entry) }
 {
-    // a proof does not learn what a closure under `or_else` returns here; of a right answer both fields are looked at anyway
-    field_above(one, q).or(field_above(two, q))
+    // by `if let`, so that the second field is looked at only where the first has none: a proof does not learn what a closure under
+    // `or_else` returns here
+    if let Some(offset) = field_above(one, q) {
+        return Some(offset);
+    }
+    field_above(two, q)
 }
 
 // The offset of the first residue of an answer that is not below q.

@@ -15,7 +15,7 @@ use statements::bits::{narrow, widen};
 use statements::checked::Checked;
 use statements::counts::{count_of, has_ones};
 use statements::given::Given;
-use vectors::modular::{add, all_below};
+use vectors::modular::{add, all_below, subtract};
 use vectors::zeroing::ZeroOnDrop;
 
 #[derive(Clone, Copy)]
@@ -68,7 +68,7 @@ impl<'a> Noise<'a> {
         add(image, layer, self.checked.modulus());
     }
 
-    // Says whether A·free + layer is the target.
+    // Says whether A·free + layer is the target, by A·free and target − layer: so it stops at the first row that differs.
     fn image_is_target(&self, layer: &[u16], free: &[u16]) -> bool
         requires layer { (length layer.now ≡ self.now.checked.given.rows) × (below self.now.checked.given.modulus layer.now ≡ true) }
         requires free { length free.now ≡ self.now.checked.given.columns }
@@ -76,9 +76,10 @@ impl<'a> Noise<'a> {
     {
         let mut buffer = [0; 128];
         let guard = ZeroOnDrop { area: &mut buffer };
-        let image = &mut guard.area[0..self.checked.rows()];
-        self.write_image(layer, free, image);
-        *image == *self.checked.target()
+        let difference = &mut guard.area[0..self.checked.rows()];
+        difference.copy_from_slice(self.checked.target());
+        subtract(difference, layer, self.checked.modulus());
+        self.checked.multiplies_to(free, difference)
     }
 }
 

@@ -112,12 +112,21 @@ impl<'a> Checked<'a> {
         requires { length vector.now ≡ self.now.given.columns }
         ensures { result ≡ same (product self.now.given.modulus self.now.given.columns self.now.given.rows self.now.given.matrix.now vector.now) self.now.given.target.now }
     {
+        self.multiplies_to(vector, self.target())
+    }
+
+    // Says whether the matrix times the vector is this list. It stops at the first row that differs.
+    pub fn multiplies_to(&self, vector: &[u16], list: &[u16]) -> bool
+        requires columns { length vector.now ≡ self.now.given.columns }
+        requires rows { length list.now ≡ self.now.given.rows }
+        ensures { result ≡ same (product self.now.given.modulus self.now.given.columns self.now.given.rows self.now.given.matrix.now vector.now) list.now }
+    {
         product_is(
             self.given.matrix,
             self.columns(),
             vector,
             self.modulus(),
-            self.target(),
+            list,
         )
     }
 }

@@ -6,7 +6,7 @@ ghost use Rattle.relation_laws.specs.Products.{ones as ones_of};
 pub fn count_of(values: &[u16], value: u16) -> usize
     ensures { (result ≡ count value values.now) × (result ≤ length values.now) }
 {
-    values.iter().filter(|x| value == **x).count()
+    values.iter().map(|x| usize::from(value == *x)).sum()
 }
 
 // Says whether the list has this many ones, and zeros otherwise.
